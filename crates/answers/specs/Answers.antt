@@ -1,0 +1,41 @@
+-- Document 01, "Numbers given back": each answer's number and place.
+use Prim.Native.Nat.{ℕ, _+_, _*_}
+use mathlib.Core.Bool.{Bool, true, false}
+use Rattle.answers.specs.declared.Answer.{Answer}
+use Rattle.answers.specs.declared.Answer.the-variants.{Done, NoSettings, NoRoom, EntryLength, OutOfRange, NothingPending, Differs, NoRelay}
+
+abbrev pub number : Answer → ℕ
+number Done = 0
+number NoSettings = 1
+number NoRoom = 3
+number EntryLength = 5
+number (OutOfRange at) = 6
+number NothingPending = 7
+number (Differs at) = 8
+number NoRelay = 17
+
+-- An offset where the table has one, else 0.
+abbrev pub place : Answer → ℕ
+place Done = 0
+place NoSettings = 0
+place NoRoom = 0
+place EntryLength = 0
+place (OutOfRange at) = at
+place NothingPending = 0
+place (Differs at) = at
+place NoRelay = 0
+
+-- "C gets one number back: 256 times the place, plus the number given back."
+abbrev pub givenBack : Answer → ℕ
+givenBack a = 256 * place a + number a
+
+-- Done, or refused.
+abbrev pub isDone : Answer → Bool
+isDone Done = true
+isDone NoSettings = false
+isDone NoRoom = false
+isDone EntryLength = false
+isDone (OutOfRange at) = false
+isDone NothingPending = false
+isDone (Differs at) = false
+isDone NoRelay = false

@@ -1,0 +1,70 @@
+// The numbers given back (document 01, "Numbers given back"): each answer by name, and the one number that C gets.
+ghost use mathlib.Core.Path.{_≡_};
+ghost use Prim.Native.Nat.{_<_};
+ghost use Rattle.answers.specs.Answers.{number, place, givenBack};
+
+// Each answer with its number. A place is an offset in a record, below 256.
+pub enum Answer {
+    Done,
+    NoSettings,
+    NoRoom,
+    EntryLength,
+    OutOfRange(u8),
+    NothingPending,
+    Differs(u8),
+    NoRelay,
+}
+
+pub const DONE: u64 = 0;
+pub const NO_SETTINGS: u64 = 1;
+pub const NO_ROOM: u64 = 3;
+pub const ENTRY_LENGTH: u64 = 5;
+pub const OUT_OF_RANGE: u64 = 6;
+pub const NOTHING_PENDING: u64 = 7;
+pub const DIFFERS: u64 = 8;
+pub const NO_RELAY: u64 = 17;
+
+fn wide(x: u8) -> u64
+    ensures { λ r. ⌜ (r ≡ x) × (r < 256) ⌝ }
+{
+    x as u64
+}
+
+// The number of an answer.
+fn number(a: Answer) -> u64
+    ensures { λ r. ⌜ (r ≡ number a) × (r < 256) ⌝ }
+{
+    match a {
+        Answer::Done => DONE,
+        Answer::NoSettings => NO_SETTINGS,
+        Answer::NoRoom => NO_ROOM,
+        Answer::EntryLength => ENTRY_LENGTH,
+        Answer::OutOfRange(_) => OUT_OF_RANGE,
+        Answer::NothingPending => NOTHING_PENDING,
+        Answer::Differs(_) => DIFFERS,
+        Answer::NoRelay => NO_RELAY,
+    }
+}
+
+// Its place: an offset where the table has one, else 0.
+fn place(a: Answer) -> u8
+    ensures { λ r. ⌜ r ≡ place a ⌝ }
+{
+    match a {
+        Answer::Done => 0,
+        Answer::NoSettings => 0,
+        Answer::NoRoom => 0,
+        Answer::EntryLength => 0,
+        Answer::OutOfRange(at) => at,
+        Answer::NothingPending => 0,
+        Answer::Differs(at) => at,
+        Answer::NoRelay => 0,
+    }
+}
+
+// What C gets: 256 times the place, plus the number.
+pub fn given_back(a: Answer) -> u64
+    ensures { λ r. ⌜ r ≡ givenBack a ⌝ }
+{
+    256 * wide(place(a)) + number(a)
+}

@@ -1,0 +1,35 @@
+-- Laws of what is written over a list: a second part right behind the first, what stood there already, the part read again.
+use Prim.Native.Nat.{ℕ, _+_, _≤_}
+use mathlib.Core.Path.{_≡_, _∙_, ap}
+use mathlib.Core.List.{List, _++_, append-assoc}
+use native.Mathlib.Nat.{add-assoc}
+use native.Mathlib.Omega.{arith}
+use lib.ListN.{length, take, drop, length-append, length-drop, take-append-drop}
+use lib.Seq.{length-take-le, take-at, drop-at, drop-drop, take-add, take-append-seam, drop-append-add}
+use Rattle.lent.specs.Lent.{over}
+
+module _ (d : List ℕ) (at : ℕ) (x : List ℕ) (room : at ≤ length d) where
+  -- up to the part's end
+  front-length : length (take at d ++ x) ≡ at + length x
+  front-length = length-append (take at d) x ∙ ap (λ (n : ℕ). n + length x) (length-take-le at d room)
+
+  -- behind the part nothing changes
+  pub over-behind : (n : ℕ) → drop (at + length x + n) (over d at x) ≡ drop (at + length x + n) d
+  over-behind n = rw (← front-length, drop-append-add, front-length) (drop-drop n (at + length x) d)
+
+  -- a second part right behind the first is one longer part
+  pub over-over : (y : List ℕ) → over (over d at x) (at + length x) y ≡ over d at (x ++ y)
+  over-over y = rw (over-behind (length y), take-at (take at d ++ x) (drop (at + length x) d) (at + length x) front-length) (rw (length-append x y, ← add-assoc, ← append-assoc))
+
+  -- the part, read again
+  pub over-read : take (length x) (drop at (over d at x)) ≡ x
+  over-read =
+      rw
+      (append-assoc (take at d) x (drop (at + length x) d), drop-at (take at d) (x ++ drop (at + length x) d) at (length-take-le at d room))
+      (take-append-seam x (drop (at + length x) d))
+
+-- what stands there already changes nothing
+pub over-same : (d : List ℕ) (at n : ℕ) → at + n ≤ length d → over d at (take n (drop at d)) ≡ d
+over-same d at n room =
+    let l : length (take n (drop at d)) ≡ n = length-take-le n (drop at d) (simp length-drop (omega arith)) in
+    rw (l, ← take-add) (take-append-drop (at + n) d)

@@ -1,0 +1,2 @@
+-- What is done to lent bytes.
+pub mod Lent

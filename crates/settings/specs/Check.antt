@@ -1,0 +1,53 @@
+-- Document 01, "Settings record": checks go by offset.
+use Prim.Native.Nat.{ℕ, _+_, _*_}
+use mathlib.Core.List.{List, [], _∷_}
+use mathlib.Core.Bool.{Bool, true, false}
+use lib.ListN.{getD}
+use lib.IntN.{ℤ}
+use lib.Signed.{leZ, ltZ}
+use lib.Dec.{leb, eqb}
+use Rattle.settings.specs.declared.Rule.{Rule}
+use Rattle.settings.specs.declared.Rule.the-variants.{Unsigned, Signed, Squares, Below, Spare}
+use Rattle.settings.specs.declared.Checked.{Checked}
+use Rattle.settings.specs.declared.Checked.the-variants.{Good, Bad}
+use Rattle.settings.specs.Record.{fieldAt, signedAt}
+use Rattle.settings.specs.Table.{table}
+
+abbrev pub both : Bool → Bool → Bool
+both true b = b
+both false b = false
+
+-- From a least to a greatest number.
+abbrev pub within : ℕ → ℕ → ℕ → Bool
+within low high v = both (leb low v) (leb v high)
+
+abbrev pub withinSigned : ℤ → ℤ → ℤ → Bool
+withinSigned low high v = both (leZ low v) (leZ v high)
+
+-- Whether a record keeps a rule.
+abbrev pub holds : List ℕ → Rule → Bool
+holds s (Unsigned at low high) = within low high (fieldAt s at)
+holds s (Signed at low high) = withinSigned low high (signedAt s at)
+holds s (Squares x y low high) = within low high (fieldAt s x * fieldAt s x + fieldAt s y * fieldAt s y)
+holds s (Below x y) = ltZ (signedAt s x) (signedAt s y)
+holds s (Spare at) = eqb (getD s at 0) 0
+
+-- The offset at which a fault of it is reported: of a rule on two fields, the later one's.
+abbrev pub place : Rule → ℕ
+place (Unsigned at low high) = at
+place (Signed at low high) = at
+place (Squares x y low high) = y
+place (Below x y) = y
+place (Spare at) = at
+
+abbrev pub pick : Bool → Checked → Checked → Checked
+pick true a b = a
+pick false a b = b
+
+-- The first rule of a list that a record breaks.
+unfoldable pub checkedBy : List Rule → List ℕ → Checked
+checkedBy [] s = Good
+checkedBy (r ∷ rs) s = pick (holds s r) (checkedBy rs s) (Bad (place r))
+
+abbrev pub checked : List ℕ → Checked
+checked s = checkedBy table s

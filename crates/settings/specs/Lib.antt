@@ -1,0 +1,4 @@
+-- The settings record, in the order of document 01: how a field is read, the table, what a check finds.
+pub mod Record
+pub mod Table
+pub mod Check
