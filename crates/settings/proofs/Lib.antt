@@ -1,3 +1,4 @@
 -- What belongs to no one function.
 pub mod TwosComplement
 pub mod Cases
+pub mod Good

@@ -1,0 +1,4 @@
+-- The proofs of the statements in specs/.
+pub mod One
+pub mod Relay
+pub mod Demand1

@@ -1,0 +1,24 @@
+-- Document 01, "What a reader may rely on": a claim leaves one possible result for each input, bad ones too.
+use Prim.Native.Nat.{ℕ, _/_, _%_}
+use mathlib.Core.Path.{_≡_}
+use mathlib.Core.List.{List}
+use Rattle.answers.specs.declared.Answer.{Answer}
+use Rattle.answers.specs.Answers.{number, place, givenBack}
+use Rattle.gorsepetal.specs.Calls.{Proposed, Confirmed, ReadBack}
+
+-- A claim is about two lent slices, the number given back, and what the slice that may change holds after the call.
+abbrev pub OneResult : (List ℕ → List ℕ → ℕ → List ℕ → Type 0) → Type 0
+OneResult claim = (x y : List ℕ) (n n′ : ℕ) (after after′ : List ℕ) → claim x y n after → claim x y n′ after′ → (n ≡ n′) × (after ≡ after′)
+
+abbrev pub OneProposed : Type 0
+OneProposed = OneResult Proposed
+
+abbrev pub OneConfirmed : Type 0
+OneConfirmed = OneResult Confirmed
+
+abbrev pub OneReadBack : Type 0
+OneReadBack = OneResult ReadBack
+
+-- And the one number that C gets tells the answer's number and its place, where the place is an offset in a record.
+abbrev pub NumberAndPlace : Type 0
+NumberAndPlace = (a : Answer) → (givenBack a % 256 ≡ number a) × (givenBack a / 256 ≡ place a)

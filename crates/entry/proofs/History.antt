@@ -1,0 +1,50 @@
+-- Demand 1 over histories. A good pending record is the last entry of the log, proposed and answered 0, since every other entry leaves
+-- nothing pending; and only a confirmation answered 0 changes the record in force, to bytes that are the pending ones. So a good record
+-- in force was said twice, one entry after the other.
+use mathlib.Core.Path.{_≡_, refl, sym, _∙_}
+use mathlib.Core.List.{List}
+use mathlib.Core.Bool.{Bool, true, false}
+use Rattle.answers.specs.Answers.{givenBack, isDone}
+use Rattle.answers.proofs.Numbers.{done-zero, refused-not-zero}
+use Rattle.lent.proofs.Differences.{compared-same}
+use Rattle.settings.specs.declared.Checked.{Checked}
+use Rattle.settings.specs.declared.Checked.the-variants.{Good}
+use Rattle.entry.specs.Pair.{Pair, nothing}
+use Rattle.entry.specs.Entry.{pickBytes, proposeAnswer, confirmAnswer}
+use Rattle.entry.specs.Log.{propose, confirm, Log, _▷_, Leads, from-fresh, by-propose, by-confirm, SaidTwice, twice, later}
+use Rattle.entry.proofs.Done.{Whole, proposed-whole, confirmed-whole, confirm-done}
+use Prim.Native.Nat.{ℕ}
+
+module _ (check : List ℕ → Checked) (blank : check nothing ≡ Good → ⊥) where
+  leads-whole : {l : Log} {p : Pair} → Leads check l p → Whole p
+  leads-whole from-fresh = record { force = refl; pending = refl }
+  leads-whole (by-propose {p = p} d e) = proposed-whole (check e) p e (leads-whole d)
+  leads-whole (by-confirm {p = p} d e) = confirmed-whole (check (p .pending)) p e (leads-whole d)
+
+  -- a good pending record is the last entry, proposed and answered 0
+  data Said (r : List ℕ) : Log → Type 0 where
+    last : (l : Log) → Said r (l ▷ propose r 0)
+
+  pending-said : {l : Log} {p : Pair} → Leads check l p → check (p .pending) ≡ Good → Said (p .pending) l
+  pending-said from-fresh g = absurd (blank g)
+  pending-said (by-propose {l} d e) g = by-test (isDone (proposeAnswer (check e) e)) refl g
+    where
+      by-test : (b : Bool) → isDone (proposeAnswer (check e) e) ≡ b → check (pickBytes b e nothing) ≡ Good → Said (pickBytes b e nothing) (l ▷ propose e (givenBack (proposeAnswer (check e) e)))
+      by-test true t g = rw (done-zero (proposeAnswer (check e) e) t) (last l)
+      by-test false t g = absurd (blank g)
+  pending-said (by-confirm d e) g = absurd (blank g)
+
+  said-twice : {r : List ℕ} {l : Log} → Said r l → SaidTwice r (l ▷ confirm r 0)
+  said-twice (last l) = twice l
+
+  pub in-force-said-twice : {l : Log} {p : Pair} → Leads check l p → check (p .force) ≡ Good → SaidTwice (p .force) l
+  in-force-said-twice from-fresh g = absurd (blank g)
+  in-force-said-twice (by-propose d e) g = later (in-force-said-twice d g) tt
+  in-force-said-twice (by-confirm {l} {p} d e) g = by-test (isDone (confirmAnswer (check (p .pending)) p e)) refl (λ k. in-force-said-twice d k) g
+    where
+      by-test : (b : Bool) → isDone (confirmAnswer (check (p .pending)) p e) ≡ b → (check (p .force) ≡ Good → SaidTwice (p .force) l) → check (pickBytes b e (p .force)) ≡ Good → SaidTwice (pickBytes b e (p .force)) (l ▷ confirm e (givenBack (confirmAnswer (check (p .pending)) p e)))
+      by-test true t before g =
+          let done = confirm-done (check (p .pending)) p e t in
+          let same : p .pending ≡ e = compared-same (p .pending) e (leads-whole d .pending ∙ sym (done .0)) (done .2) in
+          rw (done-zero (confirmAnswer (check (p .pending)) p e) t) (said-twice (rw same at (pending-said d (done .1))))
+      by-test false t before g = later (before g) (refused-not-zero (confirmAnswer (check (p .pending)) p e) t)
