@@ -2,3 +2,4 @@
 pub mod One
 pub mod Relay
 pub mod Demand1
+pub mod Settings

@@ -1,11 +1,10 @@
 -- What a comparison's finding means: no difference is equality, and a difference lies inside.
 use Prim.Native.Nat.{ℕ, suc, _+_, _<_, _≤_}
-use mathlib.Core.Path.{_≡_, refl, ap, ap₂, sym, _∙_}
+use mathlib.Core.Path.{_≡_, refl, ap₂}
 use mathlib.Core.List.{List, [], _∷_}
 use mathlib.Core.Bool.{Bool, true, false}
-use native.Mathlib.Nat.{suc-inj}
 use native.Mathlib.Omega.{arith}
-use borrow.Author.Tests.{eqb-true}
+use borrow.Author.Tests.{eq-eqb, eqb-true}
 use lib.ListN.{length}
 use lib.Dec.{eqb}
 use Rattle.lent.specs.Lent.{differFrom, compared, pick}
@@ -49,3 +48,13 @@ same-from j (x ∷ xs) (y ∷ ys) l e = by-test (eqb x y) refl (same-from (suc j
 pub compared-same : (xs ys : List ℕ) → length xs ≡ length ys → compared xs ys ≡ Same → xs ≡ ys
 unfolding compared
 compared-same xs ys l e = same-from 0 xs ys l e
+
+same-self : (j : ℕ) (xs : List ℕ) → differFrom j xs xs ≡ Same
+unfolding differFrom
+same-self j [] = refl
+same-self j (x ∷ xs) = rw (eq-eqb x x refl) (same-self (suc j) xs)
+
+-- and a list does not differ from itself
+pub compared-self : (xs : List ℕ) → compared xs xs ≡ Same
+unfolding compared
+compared-self xs = same-self 0 xs

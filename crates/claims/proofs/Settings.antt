@@ -1,0 +1,91 @@
+-- What the desk may rely on, call by call.
+use Prim.Native.Nat.{ℕ, _+_, _≤_}
+use mathlib.Core.Path.{_≡_, refl, sym, ap, _∙_}
+use mathlib.Core.List.{List, _++_}
+use mathlib.Core.Bool.{Bool, true, false}
+use native.Mathlib.Omega.{arith}
+use borrow.Author.Tests.{eq-eqb, ne-eqb, le-leb, eqb-true}
+use lib.ListN.{length, take, drop}
+use lib.Seq.{take-at, drop-at}
+use lib.Dec.{eqb}
+use Rattle.answers.specs.Answers.{givenBack}
+use Rattle.answers.proofs.Numbers.{zero-is, not-zero-refused}
+use Rattle.lent.proofs.Differences.{compared-same, compared-self}
+use Rattle.settings.specs.declared.Checked.the-variants.{Good, Bad}
+use Rattle.settings.specs.Check.{checked}
+use Rattle.entry.specs.Pair.{nothing}
+use Rattle.entry.specs.Entry.{proposeAnswer, confirmAnswer}
+use Rattle.entry.proofs.Done.{confirm-done}
+use Rattle.gorsepetal.specs.State.{settingsOf}
+use Rattle.gorsepetal.specs.Calls.{Proposed, Confirmed, ReadBack, readBackAnswer, ofRelay}
+use Rattle.claims.specs.Settings.{GoodComesIntoForce, ConfirmedReadsBack, RefusedProposal, RefusedConfirmation, NoThirdEntry, RefusedReadBack, NoRelayNoChange}
+use Rattle.claims.proofs.Relay.{Left, whole, propose-left, confirm-left}
+use Rattle.claims.proofs.Demand1.{blank}
+
+pub refused-proposal : RefusedProposal
+refused-proposal s e n s₁ l c refused =
+    let k = propose-left s l e n s₁ c in
+    let r = not-zero-refused (proposeAnswer (checked e) e) (λ z. refused (k .given ∙ z)) in
+    (ap (λ p. p .force) (k .pair), ap (λ p. p .pending) (k .pair) ∙ rw r)
+
+pub refused-confirmation : RefusedConfirmation
+refused-confirmation s e n s₁ l c refused =
+    let k = confirm-left s l e n s₁ c in
+    let r = not-zero-refused (confirmAnswer (checked (settingsOf s .pending)) (settingsOf s) e) (λ z. refused (k .given ∙ z)) in
+    (ap (λ p. p .force) (k .pair) ∙ rw r, ap (λ p. p .pending) (k .pair))
+
+pub no-third-entry : NoThirdEntry
+no-third-entry s e e′ n n′ s₁ s₂ l l′ c c′ =
+    let k = confirm-left s l e n s₁ c in
+    let none : settingsOf s₁ .pending ≡ nothing = ap (λ p. p .pending) (k .pair) in
+    let k′ = confirm-left s₁ (k .relay) e′ n′ s₂ c′ in
+    k′ .given ∙ rw (eq-eqb (length e′) 32 l′, none, blank)
+
+pub good-comes-into-force : GoodComesIntoForce
+good-comes-into-force s e n m s₁ s₂ l le good c c′ =
+    let t = eq-eqb (length e) 32 le in
+    let k = propose-left s l e n s₁ c in
+    let pending : settingsOf s₁ .pending ≡ e = ap (λ p. p .pending) (k .pair) ∙ rw (t, good) in
+    let k′ = confirm-left s₁ (k .relay) e m s₂ c′ in
+    (
+      k .given ∙ rw (t, good),
+      k′ .given ∙ rw (t, pending, good, compared-self e),
+      ap (λ p. p .force) (k′ .pair) ∙ rw (t, pending, good, compared-self e),
+      ap (λ p. p .pending) (k′ .pair),
+    )
+
+pub no-relay-no-change : NoRelayNoChange
+no-relay-no-change s e n after f =
+    let t = ne-eqb (length s) 64 f in
+    (λ c. (c .given ∙ rw t, c .state ∙ rw t), λ c. (c .given ∙ rw t, c .state ∙ rw t), λ c. (c .given ∙ rw t, c .buffer ∙ rw t))
+
+pub refused-read-back : RefusedReadBack
+refused-read-back s out n after c refused = c .buffer ∙ rw (not-zero-refused (readBackAnswer s out) (λ z. refused (c .given ∙ z)))
+
+-- a confirmation answered 0 was of a relay
+confirmed-relay : (s e s₁ : List ℕ) → Confirmed s e 0 s₁ → length s ≡ 64
+confirmed-relay s e s₁ c = by-test (eqb (length s) 64) refl (c .given)
+  where
+    by-test : (b : Bool) → eqb (length s) 64 ≡ b → 0 ≡ givenBack (ofRelay b (confirmAnswer (checked (settingsOf s .pending)) (settingsOf s) e)) → length s ≡ 64
+    by-test true t z = eqb-true (length s) 64 t
+    by-test false t z = let x : ⊥ = omega arith in absurd x
+
+pub confirmed-reads-back : ConfirmedReadsBack
+confirmed-reads-back s e s₁ out n after c b room =
+    let l = confirmed-relay s e s₁ c in
+    let k = confirm-left s l e 0 s₁ c in
+    let f = checked (settingsOf s .pending) in
+    let is-done = zero-is (confirmAnswer f (settingsOf s) e) (sym (k .given)) in
+    let done = confirm-done f (settingsOf s) e (rw is-done) in
+    let same : settingsOf s .pending ≡ e = compared-same (settingsOf s .pending) e (whole s l .pending ∙ sym (done .0)) (done .2) in
+    let good : checked e ≡ Good = rw same at (done .1) in
+    let force : settingsOf s₁ .force ≡ e = ap (λ p. p .force) (k .pair) ∙ rw is-done in
+    let t = eq-eqb (length s₁) 64 (k .relay) in
+    let w = le-leb 32 (length out) room in
+    let written : after ≡ e ++ drop (0 + length e) out = b .buffer ∙ rw (t, force, good, w) in
+    let le : length e ≡ 32 = done .0 in
+    (
+      b .given ∙ rw (t, force, good, w),
+      ap (take 32) written ∙ take-at e (drop (0 + length e) out) 32 le,
+      ap (drop 32) written ∙ drop-at e (drop (0 + length e) out) 32 le ∙ rw le,
+    )
