@@ -2,12 +2,13 @@
 use Prim.Native.Nat.{ℕ, _+_, _≤_}
 use mathlib.Core.Path.{_≡_, refl, sym, ap, _∙_}
 use mathlib.Core.List.{List, _++_}
-use mathlib.Core.Bool.{Bool, true, false}
+use mathlib.Core.Bool.{Bool, true, false, cond}
 use native.Mathlib.Omega.{arith}
 use borrow.Author.Tests.{eq-eqb, ne-eqb, le-leb, eqb-true}
 use lib.ListN.{length, take, drop}
 use lib.Seq.{take-at, drop-at}
 use lib.Dec.{eqb}
+use Rattle.answers.specs.declared.Answer.the-variants.{NoRelay}
 use Rattle.answers.specs.Answers.{givenBack}
 use Rattle.answers.proofs.Numbers.{zero-is, not-zero-refused}
 use Rattle.lent.proofs.Differences.{compared-same, compared-self}
@@ -17,7 +18,7 @@ use Rattle.entry.specs.Pair.{nothing}
 use Rattle.entry.specs.Entry.{proposeAnswer, confirmAnswer}
 use Rattle.entry.proofs.Done.{confirm-done}
 use Rattle.gorsepetal.specs.State.{settingsOf}
-use Rattle.gorsepetal.specs.Calls.{Proposed, Confirmed, ReadBack, readBackAnswer, ofRelay}
+use Rattle.gorsepetal.specs.Calls.{Proposed, Confirmed, ReadBack, readBackAnswer}
 use Rattle.claims.specs.Settings.{GoodComesIntoForce, ConfirmedReadsBack, RefusedProposal, RefusedConfirmation, NoThirdEntry, RefusedReadBack, NoRelayNoChange}
 use Rattle.claims.proofs.Relay.{Left, whole, propose-left, confirm-left}
 use Rattle.claims.proofs.Demand1.{blank}
@@ -66,7 +67,7 @@ refused-read-back s out n after c refused = c .buffer ∙ rw (not-zero-refused (
 confirmed-relay : (s e s₁ : List ℕ) → Confirmed s e 0 s₁ → length s ≡ 64
 confirmed-relay s e s₁ c = by-test (eqb (length s) 64) refl (c .given)
   where
-    by-test : (b : Bool) → eqb (length s) 64 ≡ b → 0 ≡ givenBack (ofRelay b (confirmAnswer (checked (settingsOf s .pending)) (settingsOf s) e)) → length s ≡ 64
+    by-test : (b : Bool) → eqb (length s) 64 ≡ b → 0 ≡ givenBack (cond b (confirmAnswer (checked (settingsOf s .pending)) (settingsOf s) e) NoRelay) → length s ≡ 64
     by-test true t z = eqb-true (length s) 64 t
     by-test false t z = let x : ⊥ = omega arith in absurd x
 

@@ -2,10 +2,11 @@
 use Prim.Native.Nat.{ℕ}
 use mathlib.Core.Path.{_≡_, refl}
 use mathlib.Core.List.{List}
-use mathlib.Core.Bool.{Bool, true, false}
+use mathlib.Core.Bool.{Bool, true, false, cond}
 use borrow.Author.Tests.{eqb-true}
 use lib.ListN.{length}
 use lib.Dec.{eqb}
+use Rattle.answers.specs.declared.Answer.the-variants.{EntryLength}
 use Rattle.answers.specs.Answers.{isDone}
 use Rattle.answers.proofs.Numbers.{false-not-true}
 use Rattle.lent.specs.declared.Compared.{Compared}
@@ -14,12 +15,12 @@ use Rattle.lent.specs.Lent.{compared}
 use Rattle.settings.specs.declared.Checked.{Checked}
 use Rattle.settings.specs.declared.Checked.the-variants.{Good, Bad}
 use Rattle.entry.specs.Pair.{Pair, nothing}
-use Rattle.entry.specs.Entry.{ofLength, ofCheck, ofPending, ofCompare, pickBytes, proposeAnswer, proposed, confirmAnswer, confirmed}
+use Rattle.entry.specs.Entry.{ofCheck, ofPending, ofCompare, proposeAnswer, proposed, confirmAnswer, confirmed}
 
 pub propose-done : (found : Checked) (e : List ℕ) → isDone (proposeAnswer found e) ≡ true → (length e ≡ 32) × (found ≡ Good)
 propose-done found e t = by-tests (eqb (length e) 32) found refl t
   where
-    by-tests : (b : Bool) (f : Checked) → eqb (length e) 32 ≡ b → isDone (ofLength b (ofCheck f)) ≡ true → (length e ≡ 32) × (f ≡ Good)
+    by-tests : (b : Bool) (f : Checked) → eqb (length e) 32 ≡ b → isDone (cond b (ofCheck f) EntryLength) ≡ true → (length e ≡ 32) × (f ≡ Good)
     by-tests true Good l t = (eqb-true (length e) 32 l, refl)
     by-tests true (Bad k) l t = absurd (false-not-true t)
     by-tests false f l t = absurd (false-not-true t)
@@ -27,7 +28,7 @@ propose-done found e t = by-tests (eqb (length e) 32) found refl t
 pub confirm-done : (found : Checked) (p : Pair) (e : List ℕ) → isDone (confirmAnswer found p e) ≡ true → (length e ≡ 32) × (found ≡ Good) × (compared (p .pending) e ≡ Same)
 confirm-done found p e t = by-tests (eqb (length e) 32) found (compared (p .pending) e) refl t
   where
-    by-tests : (b : Bool) (f : Checked) (d : Compared) → eqb (length e) 32 ≡ b → isDone (ofLength b (ofPending f (ofCompare d))) ≡ true → (length e ≡ 32) × (f ≡ Good) × (d ≡ Same)
+    by-tests : (b : Bool) (f : Checked) (d : Compared) → eqb (length e) 32 ≡ b → isDone (cond b (ofPending f (ofCompare d)) EntryLength) ≡ true → (length e ≡ 32) × (f ≡ Good) × (d ≡ Same)
     by-tests true Good Same l t = (eqb-true (length e) 32 l, refl, refl)
     by-tests true Good (Differ k) l t = absurd (false-not-true t)
     by-tests true (Bad k) d l t = absurd (false-not-true t)
@@ -41,13 +42,13 @@ pub record Whole (p : Pair) : Type 0 where
 pub proposed-whole : (found : Checked) (p : Pair) (e : List ℕ) → Whole p → Whole (proposed found p e)
 proposed-whole found p e w = record { force = w .force; pending = by-test (isDone (proposeAnswer found e)) refl }
   where
-    by-test : (b : Bool) → isDone (proposeAnswer found e) ≡ b → length (pickBytes b e nothing) ≡ 32
+    by-test : (b : Bool) → isDone (proposeAnswer found e) ≡ b → length (cond b e nothing) ≡ 32
     by-test true t = propose-done found e t .0
     by-test false t = refl
 
 pub confirmed-whole : (found : Checked) (p : Pair) (e : List ℕ) → Whole p → Whole (confirmed found p e)
 confirmed-whole found p e w = record { force = by-test (isDone (confirmAnswer found p e)) refl; pending = refl }
   where
-    by-test : (b : Bool) → isDone (confirmAnswer found p e) ≡ b → length (pickBytes b e (p .force)) ≡ 32
+    by-test : (b : Bool) → isDone (confirmAnswer found p e) ≡ b → length (cond b e (p .force)) ≡ 32
     by-test true t = confirm-done found p e t .0
     by-test false t = w .force

@@ -3,14 +3,14 @@
 -- in force was said twice, one entry after the other.
 use mathlib.Core.Path.{_≡_, refl, sym, _∙_}
 use mathlib.Core.List.{List}
-use mathlib.Core.Bool.{Bool, true, false}
+use mathlib.Core.Bool.{Bool, true, false, cond}
 use Rattle.answers.specs.Answers.{givenBack, isDone}
 use Rattle.answers.proofs.Numbers.{done-zero, refused-not-zero}
 use Rattle.lent.proofs.Differences.{compared-same}
 use Rattle.settings.specs.declared.Checked.{Checked}
 use Rattle.settings.specs.declared.Checked.the-variants.{Good}
 use Rattle.entry.specs.Pair.{Pair, nothing}
-use Rattle.entry.specs.Entry.{pickBytes, proposeAnswer, confirmAnswer}
+use Rattle.entry.specs.Entry.{proposeAnswer, confirmAnswer}
 use Rattle.entry.specs.Log.{propose, confirm, Log, _▷_, Leads, from-fresh, by-propose, by-confirm, SaidTwice, twice, later}
 use Rattle.entry.proofs.Done.{Whole, proposed-whole, confirmed-whole, confirm-done}
 use Prim.Native.Nat.{ℕ}
@@ -29,7 +29,7 @@ module _ (check : List ℕ → Checked) (blank : check nothing ≡ Good → ⊥)
   pending-said from-fresh g = absurd (blank g)
   pending-said (by-propose {l} d e) g = by-test (isDone (proposeAnswer (check e) e)) refl g
     where
-      by-test : (b : Bool) → isDone (proposeAnswer (check e) e) ≡ b → check (pickBytes b e nothing) ≡ Good → Said (pickBytes b e nothing) (l ▷ propose e (givenBack (proposeAnswer (check e) e)))
+      by-test : (b : Bool) → isDone (proposeAnswer (check e) e) ≡ b → check (cond b e nothing) ≡ Good → Said (cond b e nothing) (l ▷ propose e (givenBack (proposeAnswer (check e) e)))
       by-test true t g = rw (done-zero (proposeAnswer (check e) e) t) (last l)
       by-test false t g = absurd (blank g)
   pending-said (by-confirm d e) g = absurd (blank g)
@@ -42,7 +42,7 @@ module _ (check : List ℕ → Checked) (blank : check nothing ≡ Good → ⊥)
   in-force-said-twice (by-propose d e) g = later (in-force-said-twice d g) tt
   in-force-said-twice (by-confirm {l} {p} d e) g = by-test (isDone (confirmAnswer (check (p .pending)) p e)) refl (λ k. in-force-said-twice d k) g
     where
-      by-test : (b : Bool) → isDone (confirmAnswer (check (p .pending)) p e) ≡ b → (check (p .force) ≡ Good → SaidTwice (p .force) l) → check (pickBytes b e (p .force)) ≡ Good → SaidTwice (pickBytes b e (p .force)) (l ▷ confirm e (givenBack (confirmAnswer (check (p .pending)) p e)))
+      by-test : (b : Bool) → isDone (confirmAnswer (check (p .pending)) p e) ≡ b → (check (p .force) ≡ Good → SaidTwice (p .force) l) → check (cond b e (p .force)) ≡ Good → SaidTwice (cond b e (p .force)) (l ▷ confirm e (givenBack (confirmAnswer (check (p .pending)) p e)))
       by-test true t before g =
           let done = confirm-done (check (p .pending)) p e t in
           let same : p .pending ≡ e = compared-same (p .pending) e (leads-whole d .pending ∙ sym (done .0)) (done .2) in

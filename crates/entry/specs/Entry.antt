@@ -3,7 +3,7 @@
 use Prim.Native.Nat.{ℕ}
 use mathlib.Core.Path.{_≡_}
 use mathlib.Core.List.{List}
-use mathlib.Core.Bool.{Bool, true, false}
+use mathlib.Core.Bool.{cond}
 use lib.ListN.{length}
 use lib.Dec.{eqb}
 use Rattle.answers.specs.declared.Answer.{Answer}
@@ -15,11 +15,6 @@ use Rattle.lent.specs.Lent.{compared}
 use Rattle.settings.specs.declared.Checked.{Checked}
 use Rattle.settings.specs.declared.Checked.the-variants.{Good, Bad}
 use Rattle.entry.specs.Pair.{Pair, nothing, pairAt, withPair}
-
--- Refusal 5: an entry that is not 32 bytes.
-abbrev pub ofLength : Bool → Answer → Answer
-ofLength true a = a
-ofLength false a = EntryLength
 
 -- Refusal 6: a field out of range, at its offset.
 abbrev pub ofCheck : Checked → Answer
@@ -37,16 +32,12 @@ ofCompare Same = Done
 ofCompare (Differ k) = Differs k
 
 -- What stands where a call is done, and where it is refused.
-abbrev pub pickBytes : Bool → List ℕ → List ℕ → List ℕ
-pickBytes true done refused = done
-pickBytes false done refused = refused
-
 abbrev pub ifDone : Answer → List ℕ → List ℕ → List ℕ
-ifDone a done refused = pickBytes (isDone a) done refused
+ifDone a done refused = cond (isDone a) done refused
 
--- "Propose: 5, 6."
+-- "Propose: 5, 6." Refusal 5: an entry that is not 32 bytes.
 abbrev pub proposeAnswer : Checked → List ℕ → Answer
-proposeAnswer found e = ofLength (eqb (length e) 32) (ofCheck found)
+proposeAnswer found e = cond (eqb (length e) 32) (ofCheck found) EntryLength
 
 -- "To propose a good record makes it pending, in place of any earlier pending one. Any refused propose leaves nothing pending and the
 -- record in force unchanged."
@@ -55,7 +46,7 @@ proposed found p e = record { force = p .force; pending = ifDone (proposeAnswer 
 
 -- "Confirm: 5, 7, 8."
 abbrev pub confirmAnswer : Checked → Pair → List ℕ → Answer
-confirmAnswer found p e = ofLength (eqb (length e) 32) (ofPending found (ofCompare (compared (p .pending) e)))
+confirmAnswer found p e = cond (eqb (length e) 32) (ofPending found (ofCompare (compared (p .pending) e))) EntryLength
 
 -- "To confirm with the same 32 bytes puts it in force and leaves nothing pending. Any refused confirm leaves nothing pending and the
 -- record in force unchanged."

@@ -2,7 +2,7 @@
 use Prim.Native.Nat.{ℕ}
 use mathlib.Core.Path.{_≡_}
 use mathlib.Core.List.{List}
-use mathlib.Core.Bool.{Bool, true, false}
+use mathlib.Core.Bool.{Bool, cond}
 use lib.ListN.{length}
 use lib.Dec.{eqb, leb}
 use Rattle.answers.specs.declared.Answer.{Answer}
@@ -16,44 +16,32 @@ use Rattle.entry.specs.Pair.{Pair}
 use Rattle.entry.specs.Entry as entry
 use Rattle.gorsepetal.specs.State.{stateLength, settingsOf, withSettings}
 
--- Refusal 17: a state slice of another length. Before all others; it changes nothing.
-abbrev pub ofRelay : Bool → Answer → Answer
-ofRelay true a = a
-ofRelay false a = NoRelay
-
-abbrev pub ifRelay : Bool → List ℕ → List ℕ → List ℕ
-ifRelay true after s = after
-ifRelay false after s = s
-
+-- Refusal 17: a state slice of another length. It stands before all others and changes nothing.
 abbrev pub isRelay : List ℕ → Bool
 isRelay s = eqb (length s) stateLength
 
 -- "Propose: 5, 6."
 abbrev pub proposeAnswer : List ℕ → List ℕ → Answer
-proposeAnswer s e = ofRelay (isRelay s) (entry.proposeAnswer (checked e) e)
+proposeAnswer s e = cond (isRelay s) (entry.proposeAnswer (checked e) e) NoRelay
 
 abbrev pub proposeState : List ℕ → List ℕ → List ℕ
-proposeState s e = ifRelay (isRelay s) (withSettings s (entry.proposed (checked e) (settingsOf s) e)) s
+proposeState s e = cond (isRelay s) (withSettings s (entry.proposed (checked e) (settingsOf s) e)) s
 
 -- "Confirm: 5, 7, 8." A stored record that propose would refuse counts as absent.
 abbrev pub confirmAnswer : List ℕ → List ℕ → Answer
-confirmAnswer s e = ofRelay (isRelay s) (entry.confirmAnswer (checked (settingsOf s .pending)) (settingsOf s) e)
+confirmAnswer s e = cond (isRelay s) (entry.confirmAnswer (checked (settingsOf s .pending)) (settingsOf s) e) NoRelay
 
 abbrev pub confirmState : List ℕ → List ℕ → List ℕ
-confirmState s e = ifRelay (isRelay s) (withSettings s (entry.confirmed (checked (settingsOf s .pending)) (settingsOf s) e)) s
+confirmState s e = cond (isRelay s) (withSettings s (entry.confirmed (checked (settingsOf s .pending)) (settingsOf s) e)) s
 
--- Refusal 1: no settings in force. Refusal 3: room below 32 bytes.
+-- Refusal 1: no settings in force.
 abbrev pub ofForce : Checked → Answer → Answer
 ofForce Good a = a
 ofForce (Bad k) a = NoSettings
 
-abbrev pub ofRoom : Bool → Answer
-ofRoom true = Done
-ofRoom false = NoRoom
-
--- "Read-back: 1, 3."
+-- "Read-back: 1, 3." Refusal 3: room below 32 bytes.
 abbrev pub readBackAnswer : List ℕ → List ℕ → Answer
-readBackAnswer s out = ofRelay (isRelay s) (ofForce (checked (settingsOf s .force)) (ofRoom (leb 32 (length out))))
+readBackAnswer s out = cond (isRelay s) (ofForce (checked (settingsOf s .force)) (cond (leb 32 (length out)) Done NoRoom)) NoRelay
 
 -- "Read-back writes the 32 bytes of the record in force at the front of the lent buffer; later bytes stay."
 abbrev pub readBackOut : List ℕ → List ℕ → List ℕ

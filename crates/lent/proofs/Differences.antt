@@ -2,12 +2,12 @@
 use Prim.Native.Nat.{ℕ, suc, _+_, _<_, _≤_}
 use mathlib.Core.Path.{_≡_, refl, ap₂}
 use mathlib.Core.List.{List, [], _∷_}
-use mathlib.Core.Bool.{Bool, true, false}
+use mathlib.Core.Bool.{Bool, true, false, cond}
 use native.Mathlib.Omega.{arith}
 use borrow.Author.Tests.{eq-eqb, eqb-true}
 use lib.ListN.{length}
 use lib.Dec.{eqb}
-use Rattle.lent.specs.Lent.{differFrom, compared, pick}
+use Rattle.lent.specs.Lent.{differFrom, compared}
 use Rattle.lent.specs.declared.Compared.{Compared}
 use Rattle.lent.specs.declared.Compared.the-variants.{Same, Differ}
 
@@ -22,7 +22,7 @@ differ-below j n [] ys h = tt
 differ-below j n (x ∷ xs) [] h = tt
 differ-below j n (x ∷ xs) (y ∷ ys) h = by-test (eqb x y) (differ-below (suc j) n xs ys (omega arith))
   where
-    by-test : (b : Bool) → Below n (differFrom (suc j) xs ys) → Below n (pick b (differFrom (suc j) xs ys) (Differ j))
+    by-test : (b : Bool) → Below n (differFrom (suc j) xs ys) → Below n (cond b (differFrom (suc j) xs ys) (Differ j))
     by-test true d = d
     by-test false d = omega arith
 
@@ -40,7 +40,7 @@ same-from j [] (y ∷ ys) l e = let z : ⊥ = omega arith in absurd z
 same-from j (x ∷ xs) [] l e = let z : ⊥ = omega arith in absurd z
 same-from j (x ∷ xs) (y ∷ ys) l e = by-test (eqb x y) refl (same-from (suc j) xs ys (omega arith)) e
   where
-    by-test : (b : Bool) → eqb x y ≡ b → (differFrom (suc j) xs ys ≡ Same → xs ≡ ys) → pick b (differFrom (suc j) xs ys) (Differ j) ≡ Same → x ∷ xs ≡ y ∷ ys
+    by-test : (b : Bool) → eqb x y ≡ b → (differFrom (suc j) xs ys ≡ Same → xs ≡ ys) → cond b (differFrom (suc j) xs ys) (Differ j) ≡ Same → x ∷ xs ≡ y ∷ ys
     by-test true t same e = ap₂ _∷_ (eqb-true x y t) (same e)
     by-test false t same e = absurd (differ-not-same j e)
 

@@ -1,7 +1,7 @@
 -- What is done to lent bytes: a part written over, and the first place at which two lists differ.
 use Prim.Native.Nat.{ℕ, suc, _+_}
 use mathlib.Core.List.{List, [], _∷_, _++_}
-use mathlib.Core.Bool.{Bool, true, false}
+use mathlib.Core.Bool.{cond}
 use lib.ListN.{length, take, drop}
 use lib.Dec.{eqb}
 use Rattle.lent.specs.declared.Compared.{Compared}
@@ -11,15 +11,11 @@ use Rattle.lent.specs.declared.Compared.the-variants.{Same, Differ}
 abbrev pub over : List ℕ → ℕ → List ℕ → List ℕ
 over d at s = take at d ++ s ++ drop (at + length s) d
 
-abbrev pub pick : Bool → Compared → Compared → Compared
-pick true a b = a
-pick false a b = b
-
 -- The first place at which two lists differ, counted from k.
 unfoldable pub differFrom : ℕ → List ℕ → List ℕ → Compared
 differFrom k [] ys = Same
 differFrom k (x ∷ xs) [] = Same
-differFrom k (x ∷ xs) (y ∷ ys) = pick (eqb x y) (differFrom (suc k) xs ys) (Differ k)
+differFrom k (x ∷ xs) (y ∷ ys) = cond (eqb x y) (differFrom (suc k) xs ys) (Differ k)
 
 -- Refusal 8: the first differing offset of two records of one length.
 unfoldable pub compared : List ℕ → List ℕ → Compared

@@ -1,18 +1,19 @@
 -- What a good record is: every rule of the table holds, so that every field lies in its range.
 use Prim.Native.Nat.{ℕ}
-use mathlib.Core.Path.{_≡_, refl, sym, subst}
+use mathlib.Core.Path.{_≡_, refl}
 use mathlib.Core.List.{List, [], _∷_}
-use mathlib.Core.Bool.{Bool, true, false}
+use mathlib.Core.Bool.{Bool, true, false, cond, _&&_}
 use native.Mathlib.Omega.{arith}
 use borrow.Author.Tests.{leb-true}
-use lib.Dec.{T, leb}
+use lib.Dec.{leb}
 use lib.IntN.{ℤ}
-use lib.Signed.{leZ, ltZ, leZ-yes, ltZ-yes}
+use lib.Signed.{leZ}
+use Rattle.whole.proofs.Machine.{le-true, lt-true}
 use Rattle.settings.specs.declared.Rule.{Rule}
 use Rattle.settings.specs.declared.Checked.{Checked}
 use Rattle.settings.specs.declared.Checked.the-variants.{Good, Bad}
 use Rattle.settings.specs.Table.{table}
-use Rattle.settings.specs.Check.{both, within, withinSigned, holds, place, pick, checkedBy, checked}
+use Rattle.settings.specs.Check.{within, withinSigned, holds, place, checkedBy, checked}
 use Rattle.settings.specs.Fields.{From, FromSigned, Ranges}
 
 -- Every rule of a list holds.
@@ -32,7 +33,7 @@ unfolding checkedBy
 all-hold [] s g = tt
 all-hold (r ∷ rs) s g = by-test (holds s r) (all-hold rs s) g
   where
-    by-test : (b : Bool) → (checkedBy rs s ≡ Good → AllHold rs s) → pick b (checkedBy rs s) (Bad (place r)) ≡ Good → (b ≡ true) × AllHold rs s
+    by-test : (b : Bool) → (checkedBy rs s ≡ Good → AllHold rs s) → cond b (checkedBy rs s) (Bad (place r)) ≡ Good → (b ≡ true) × AllHold rs s
     by-test true rest g = (refl, rest g)
     by-test false rest g = absurd (bad-not-good (place r) g)
 
@@ -41,7 +42,7 @@ unfolding checkedBy
 good [] s h = refl
 good (r ∷ rs) s h = rw (h .0) (good rs s (h .1))
 
-parts : (a b : Bool) → both a b ≡ true → (a ≡ true) × (b ≡ true)
+parts : (a b : Bool) → a && b ≡ true → (a ≡ true) × (b ≡ true)
 parts true b t = (refl, t)
 parts false b t = absurd (false-not-true t)
 
@@ -50,13 +51,10 @@ from low high v t =
     let p = parts (leb low v) (leb v high) t in
     record { least = leb-true low v (p .0); most = leb-true v high (p .1) }
 
-yes : {b : Bool} → b ≡ true → T b
-yes t = subst T (sym t) tt
-
 from-signed : (low high v : ℤ) → withinSigned low high v ≡ true → FromSigned low high v
 from-signed low high v t =
     let p = parts (leZ low v) (leZ v high) t in
-    record { least = leZ-yes (yes (p .0)); most = leZ-yes (yes (p .1)) }
+    record { least = le-true (p .0); most = le-true (p .1) }
 
 -- The named ranges of every good record.
 pub ranges : (s : List ℕ) → checked s ≡ Good → Ranges s
@@ -80,6 +78,6 @@ ranges s g =
       angle-size = from _ _ _ (c .1 .1 .0);
       forwardLimit-range = from-signed _ _ _ (c .1 .1 .1 .0);
       reverseLimit-range = from-signed _ _ _ (d .0);
-      limits-order = ltZ-yes (yes (d .1 .0));
+      limits-order = lt-true (d .1 .0);
       negativePickup-range = from _ _ _ (d .1 .1 .0);
     }

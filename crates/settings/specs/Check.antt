@@ -1,7 +1,7 @@
 -- Document 01, "Settings record": checks go by offset.
 use Prim.Native.Nat.{ℕ, _+_, _*_}
 use mathlib.Core.List.{List, [], _∷_}
-use mathlib.Core.Bool.{Bool, true, false}
+use mathlib.Core.Bool.{Bool, cond, _&&_}
 use lib.ListN.{getD}
 use lib.IntN.{ℤ}
 use lib.Signed.{leZ, ltZ}
@@ -13,16 +13,12 @@ use Rattle.settings.specs.declared.Checked.the-variants.{Good, Bad}
 use Rattle.settings.specs.Record.{fieldAt, signedAt}
 use Rattle.settings.specs.Table.{table}
 
-abbrev pub both : Bool → Bool → Bool
-both true b = b
-both false b = false
-
 -- From a least to a greatest number.
 abbrev pub within : ℕ → ℕ → ℕ → Bool
-within low high v = both (leb low v) (leb v high)
+within low high v = leb low v && leb v high
 
 abbrev pub withinSigned : ℤ → ℤ → ℤ → Bool
-withinSigned low high v = both (leZ low v) (leZ v high)
+withinSigned low high v = leZ low v && leZ v high
 
 -- Whether a record keeps a rule.
 abbrev pub holds : List ℕ → Rule → Bool
@@ -40,14 +36,10 @@ place (Squares x y low high) = y
 place (Below x y) = y
 place (Spare at) = at
 
-abbrev pub pick : Bool → Checked → Checked → Checked
-pick true a b = a
-pick false a b = b
-
 -- The first rule of a list that a record breaks.
 unfoldable pub checkedBy : List Rule → List ℕ → Checked
 checkedBy [] s = Good
-checkedBy (r ∷ rs) s = pick (holds s r) (checkedBy rs s) (Bad (place r))
+checkedBy (r ∷ rs) s = cond (holds s r) (checkedBy rs s) (Bad (place r))
 
 abbrev pub checked : List ℕ → Checked
 checked s = checkedBy table s

@@ -1,99 +1,66 @@
-use Prim.Native.Nat.{_<_, _^_}
-use mathlib.Core.Path.{_≡_, ap, ap₂, _∙_}
-use lib.IntN.{ℤ}
-use lib.Signed.{mag, ltZ}
-use mir.Syntax.{w64}
-use mir.Val.{toZ, ofZ}
-use mir.Facts.{toZ-ofZ}
-use Rattle.settings.specs.Check.{withinSigned}
+-- `settings::kept` meets its contract: at each kind of rule, what was read and the test that was made. Assumes nothing.
+use mathlib.Core.Path.{ap, ap₂, _∙_}
 use borrow.Author.Needs.{needs}
+use lib.Signed.{ltZ}
+use Rattle.whole.proofs.Machine.{back}
+use Rattle.settings.specs.Check.{withinSigned}
 use Rattle.settings.proofs.kept.Statement.{statement}
 use Rattle.settings.proofs.kept.Tie as tie
-use Rattle.settings.proofs.kept.Reads as reads
-use Rattle.settings.proofs.kept.Lts as lts
-use Rattle.settings.proofs.between.Reads as between-reads
-use Rattle.settings.proofs.between_signed.Reads as between-signed-reads
-use Rattle.settings.proofs.byte.Reads as byte-reads
-use Rattle.settings.proofs.field.Reads as field-reads
-use Rattle.settings.proofs.signed_field.Reads as signed-field-reads
-use Rattle.settings.proofs.squares.Reads as squares-reads
-
--- what is read back of a signed number that fits
-back : (z : ℤ) → mag z < 2 ^ 63 → toZ w64 (ofZ w64 z) ≡ z
-back z h = toZ-ofZ (record { sfits = h })
 
 enum-known-rule : tie.Need-enum-known-rule
 enum-known-rule c = search needs
 
--- src/lib.rt:117:50
 field-requires : tie.Need-field-requires
 field-requires c κs = search needs
 
--- src/lib.rt:117:42
 between-requires : tie.Need-between-requires
 between-requires c κs = search needs
 
--- src/lib.rt:118:22
 enum-known-rule-2 : tie.Need-enum-known-rule-2
 enum-known-rule-2 c = search needs
 
--- src/lib.rt:118:55
 signed-field-requires : tie.Need-signed-field-requires
 signed-field-requires c κs = search needs
 
--- src/lib.rt:118:40
 between-signed-requires : tie.Need-between-signed-requires
 between-signed-requires c κs = search needs
 
--- src/lib.rt:119:23
 enum-known-rule-3 : tie.Need-enum-known-rule-3
 enum-known-rule-3 c = search needs
 
--- src/lib.rt:119:59
 field-requires-2 : tie.Need-field-requires-2
 field-requires-2 c κs = search needs
 
--- src/lib.rt:119:72
 field-requires-3 : tie.Need-field-requires-3
 field-requires-3 c κs = search needs
 
--- src/lib.rt:119:51
 squares-requires : tie.Need-squares-requires
 squares-requires c κs = search needs
 
--- src/lib.rt:119:43
 between-requires-2 : tie.Need-between-requires-2
 between-requires-2 c κs = search needs
 
--- src/lib.rt:120:21
 enum-known-rule-4 : tie.Need-enum-known-rule-4
 enum-known-rule-4 c = search needs
 
--- src/lib.rt:120:30
 signed-field-requires-2 : tie.Need-signed-field-requires-2
 signed-field-requires-2 c κs = search needs
 
--- src/lib.rt:120:51
 signed-field-requires-3 : tie.Need-signed-field-requires-3
 signed-field-requires-3 c κs = search needs
 
--- src/lib.rt:121:21
 enum-known-rule-5 : tie.Need-enum-known-rule-5
 enum-known-rule-5 c = search needs
 
--- src/lib.rt:121:36
 cast-byte : tie.Need-cast-byte
 cast-byte c = search needs
 
--- src/lib.rt:121:28
 byte-requires : tie.Need-byte-requires
 byte-requires c κs = search needs
 
--- src/lib.rt:113:1
 returns : tie.Need-returns
 returns c = rw (c .before .before .before .rule .given .1) cc
 
--- src/lib.rt:113:1
 returns-2 : tie.Need-returns-2
 returns-2 c =
     let v = c .before .signed-field in
@@ -104,18 +71,15 @@ returns-2 c =
     ((simp (back (v .result) (v .ok), back (rule .0 .1 .0) (told .0 .1), back (rule .0 .1 .1 .0) (told .1 .0 .1)) at (c .between-signed .ensures))
     ∙ ap (withinSigned (rule .0 .1 .0) (rule .0 .1 .1 .0)) (v .ensures))
 
--- src/lib.rt:113:1
 returns-3 : tie.Need-returns-3
 returns-3 c = rw (c .before .before .before .before .before .rule3 .given .1) cc
 
--- src/lib.rt:113:1
 returns-4 : tie.Need-returns-4
 returns-4 c =
     let x = c .before .signed-field2 in
     let y = c .signed-field3 in
     rw (c .before .before .before .rule4 .given .1) (simp (back (x .result) (x .ok), back (y .result) (y .ok)) (ap₂ ltZ (x .ensures) (y .ensures)))
 
--- src/lib.rt:113:1
 returns-5 : tie.Need-returns-5
 returns-5 c = rw (c .before .before .rule5 .given .1) cc
 

@@ -1,0 +1,164 @@
+-- A whole number as the difference of two natural numbers, so that `omega` can speak of it.
+-- `search diff` reads an expression so, given one `let da = d-atom a in` for each unknown;
+-- `d-le`, `d-lt` and `d-eq` then prove a goal over ℤ by `omega`, and `of-le`, `of-lt` and `of-eq` hand it the facts.
+use mathlib.Core.Path.{_≡_, refl, ap}
+use mathlib.Core.Bool.{Bool, true, false, not, cond}
+use Prim.Native.Nat.{ℕ, zero, suc, _+_, _*_, _-_, _≤_, _<_}
+use native.Mathlib.Omega.{arith}
+use lib.Dec.{T, ltb, ltb→lt, nltb→le, leb→le, le→leb, lt→ltb}
+use lib.IntN.{ℤ, pos, negsuc, negℤ, subℕ, _+ℤ_, _*ℤ_}
+use lib.Signed.{_≤ℤ_, _<ℤ_, leZ-yes, ltZ-yes}
+
+-- how far a number lies above zero, and how far below
+abbrev pub up : ℤ → ℕ
+up (pos n) = n
+up (negsuc n) = 0
+
+abbrev pub down : ℤ → ℕ
+down (pos n) = 0
+down (negsuc n) = suc n
+
+-- z is p - m
+abbrev pub Is : ℤ → ℕ → ℕ → Type 0
+Is z p m = up z + m ≡ p + down z
+
+-- ---- negation, sum and product of differences
+
+pub neg-is : (x : ℤ) → Is (negℤ x) (down x) (up x)
+neg-is (pos zero) = refl
+neg-is (pos (suc n)) = omega arith
+neg-is (negsuc n) = omega arith
+
+sub-is : (a b : ℕ) → Is (subℕ a b) a b
+sub-is a b = by-test (ltb a b) (ltb→lt a b) (nltb→le a b)
+  where
+    by-test : (c : Bool) → (T c → a < b) → (T (not c) → b ≤ a) → Is (cond c (negsuc (b - suc a)) (pos (a - b))) a b
+    by-test true f g = let h : a < b = f tt in omega arith
+    by-test false f g = let h : b ≤ a = g tt in omega arith
+
+pub add-is : (x y : ℤ) → Is (x +ℤ y) (up x + up y) (down x + down y)
+add-is (pos a) (pos b) = omega arith
+add-is (pos a) (negsuc b) = omega (arith, sub-is a (suc b))
+add-is (negsuc a) (pos b) = omega (arith, sub-is b (suc a))
+add-is (negsuc a) (negsuc b) = omega arith
+
+pub mul-is : (x y : ℤ) → Is (x *ℤ y) (up x * up y + down x * down y) (up x * down y + down x * up y)
+mul-is (pos a) (pos b) = omega arith
+mul-is (pos a) (negsuc b) = omega (arith, neg-is (pos (a * suc b)))
+mul-is (negsuc a) (pos b) = omega (arith, neg-is (pos (suc a * b)))
+mul-is (negsuc a) (negsuc b) = omega arith
+
+-- ---- an expression read as a difference
+
+pub record Diff (z : ℤ) : Type 0 where
+  pub plus : ℕ
+  pub minus : ℕ
+  pub is : Is z plus minus
+
+-- an unknown
+abbrev pub d-atom : (z : ℤ) → Diff z
+d-atom z = record { plus = up z; minus = down z; is = refl }
+
+abbrev pub d-pos : (n : ℕ) → Diff (pos n)
+d-pos n = record { plus = n; minus = 0; is = refl }
+
+abbrev pub d-negsuc : (n : ℕ) → Diff (negsuc n)
+d-negsuc n = record { plus = 0; minus = suc n; is = refl }
+
+abbrev pub d-neg : {a : ℤ} → Diff a → Diff (negℤ a)
+d-neg {a} x = record { plus = x .minus; minus = x .plus; is = omega (arith, neg-is a, x .is) }
+
+abbrev pub d-add : {a b : ℤ} → Diff a → Diff b → Diff (a +ℤ b)
+d-add {a} {b} x y =
+    record { plus = x .plus + y .plus; minus = x .minus + y .minus; is = omega (arith, add-is a b, x .is, y .is) }
+
+abbrev pub d-mul : {a b : ℤ} → Diff a → Diff b → Diff (a *ℤ b)
+d-mul {a} {b} x y =
+    record {
+      plus = x .plus * y .plus + x .minus * y .minus;
+      minus = x .plus * y .minus + x .minus * y .plus;
+      is = omega (arith, mul-is a b, ap (λ t. t * y .plus) (x .is), ap (λ t. t * y .minus) (x .is), ap (λ t. up a * t) (y .is), ap (λ t. down a * t) (y .is));
+    }
+
+-- both sides of an equation or of an order
+pub record Sides (a b : ℤ) : Type 0 where
+  pub left : Diff a
+  pub right : Diff b
+
+abbrev pub d-sides : {a b : ℤ} → Diff a → Diff b → Sides a b
+d-sides x y = record { left = x; right = y }
+
+pub ruleset diff = (d-pos, d-negsuc, d-neg, d-add, d-mul, d-sides)
+
+-- p - m stands to q - n as p + n to q + m
+abbrev pub lower : {a b : ℤ} → Sides a b → ℕ
+lower k = k .left .plus + k .right .minus
+
+abbrev pub upper : {a b : ℤ} → Sides a b → ℕ
+upper k = k .right .plus + k .left .minus
+
+-- ---- a goal between whole numbers, from one between natural numbers
+
+le-in : (x y : ℤ) → up x + down y ≤ up y + down x → x ≤ℤ y
+le-in (pos a) (pos b) h = leZ-yes (le→leb a b (omega arith))
+le-in (pos a) (negsuc b) h = let z : ⊥ = omega arith in absurd z
+le-in (negsuc a) (pos b) h = leZ-yes tt
+le-in (negsuc a) (negsuc b) h = leZ-yes (le→leb b a (omega arith))
+
+lt-in : (x y : ℤ) → up x + down y < up y + down x → x <ℤ y
+lt-in (pos a) (pos b) h = ltZ-yes (lt→ltb a b (omega arith))
+lt-in (pos a) (negsuc b) h = let z : ⊥ = omega arith in absurd z
+lt-in (negsuc a) (pos b) h = ltZ-yes tt
+lt-in (negsuc a) (negsuc b) h = ltZ-yes (lt→ltb b a (omega arith))
+
+eq-in : (x y : ℤ) → up x + down y ≡ up y + down x → x ≡ y
+eq-in (pos a) (pos b) e = ap pos (omega arith)
+eq-in (pos a) (negsuc b) e = let z : ⊥ = omega arith in absurd z
+eq-in (negsuc a) (pos b) e = let z : ⊥ = omega arith in absurd z
+eq-in (negsuc a) (negsuc b) e = ap negsuc (omega arith)
+
+pub d-le : {a b : ℤ} (k : Sides a b) → lower k ≤ upper k → a ≤ℤ b
+d-le {a} {b} k h = le-in a b (omega (arith, k .left .is, k .right .is))
+
+pub d-lt : {a b : ℤ} (k : Sides a b) → lower k < upper k → a <ℤ b
+d-lt {a} {b} k h = lt-in a b (omega (arith, k .left .is, k .right .is))
+
+pub d-eq : {a b : ℤ} (k : Sides a b) → lower k ≡ upper k → a ≡ b
+d-eq {a} {b} k h = eq-in a b (omega (arith, k .left .is, k .right .is))
+
+-- ---- a fact between whole numbers, as one between natural numbers
+
+le-out : (x y : ℤ) → x ≤ℤ y → up x + down y ≤ up y + down x
+le-out (pos a) (pos b) h = omega (arith, leb→le a b (h .le))
+le-out (pos a) (negsuc b) h = absurd (h .le)
+le-out (negsuc a) (pos b) h = omega arith
+le-out (negsuc a) (negsuc b) h = omega (arith, leb→le b a (h .le))
+
+lt-out : (x y : ℤ) → x <ℤ y → up x + down y < up y + down x
+lt-out (pos a) (pos b) h = omega (arith, ltb→lt a b (h .lt))
+lt-out (pos a) (negsuc b) h = absurd (h .lt)
+lt-out (negsuc a) (pos b) h = omega arith
+lt-out (negsuc a) (negsuc b) h = omega (arith, ltb→lt b a (h .lt))
+
+pub of-le : {a b : ℤ} → a ≤ℤ b → (k : Sides a b) → lower k ≤ upper k
+of-le {a} {b} h k = omega (arith, k .left .is, k .right .is, le-out a b h)
+
+pub of-lt : {a b : ℤ} → a <ℤ b → (k : Sides a b) → lower k < upper k
+of-lt {a} {b} h k = omega (arith, k .left .is, k .right .is, lt-out a b h)
+
+pub of-eq : {a b : ℤ} → a ≡ b → (k : Sides a b) → lower k ≡ upper k
+of-eq e k = omega (arith, k .left .is, k .right .is, ap up e, ap down e)
+
+-- ---- the laws of a commutative ring that the library of ℤ lacks
+
+pub *ℤ-assoc : (a b c : ℤ) → (a *ℤ b) *ℤ c ≡ a *ℤ (b *ℤ c)
+*ℤ-assoc a b c = let da = d-atom a in let db = d-atom b in let dc = d-atom c in d-eq (search diff) (omega arith)
+
+pub *ℤ-add : (a b c : ℤ) → a *ℤ (b +ℤ c) ≡ a *ℤ b +ℤ a *ℤ c
+*ℤ-add a b c = let da = d-atom a in let db = d-atom b in let dc = d-atom c in d-eq (search diff) (omega arith)
+
+pub add-*ℤ : (a b c : ℤ) → (a +ℤ b) *ℤ c ≡ a *ℤ c +ℤ b *ℤ c
+add-*ℤ a b c = let da = d-atom a in let db = d-atom b in let dc = d-atom c in d-eq (search diff) (omega arith)
+
+pub neg-*ℤ : (a b : ℤ) → negℤ a *ℤ b ≡ negℤ (a *ℤ b)
+neg-*ℤ a b = let da = d-atom a in let db = d-atom b in d-eq (search diff) (omega arith)

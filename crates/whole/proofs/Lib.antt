@@ -1,0 +1,11 @@
+-- Laws of the whole numbers, in reading order. Nothing in them is assumed.
+pub mod Difference
+pub mod Polynomial
+pub mod Certificate
+pub mod Order
+pub mod Triangle
+pub mod Size
+pub mod Machine
+pub mod Rounding
+pub mod Roots
+pub mod Examples

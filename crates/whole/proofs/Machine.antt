@@ -1,0 +1,70 @@
+-- What operations on i64 give, as facts about the numbers: tests, the quotient toward zero, and -1 - x, which always fits.
+use mathlib.Core.Path.{_≡_}
+use mathlib.Core.Bool.{true, false}
+use Prim.Native.Nat.{ℕ, zero, suc, _+_, _-_, _/_, _^_, _≤_, _<_}
+use native.Mathlib.Nat.{div-le-self}
+use native.Mathlib.Numerals.{add-one}
+use native.Mathlib.Omega.{arith}
+use lib.Dec.{T}
+use lib.IntN.{ℤ, pos, negsuc, negℤ, natAbs, _-ℤ_}
+use lib.Signed.{_≤ℤ_, _<ℤ_, leZ, ltZ, ltZ-no, leZ-yes, ltZ-yes, mag, nonNeg, quotZ}
+use mir.Syntax.{w64}
+use mir.Val.{SFits, toZ, ofZ}
+use mir.Facts.{toZ-ofZ}
+use Rattle.whole.proofs.Difference.{diff, d-eq, of-lt}
+use Rattle.whole.proofs.Order.{<-unless}
+
+-- what the machine reads back of a call's result: `back (c .f .result) (c .f .ok)`, for `simp`
+pub back : (z : ℤ) → mag z < 2 ^ 63 → toZ w64 (ofZ w64 z) ≡ z
+back z h = toZ-ofZ (record { sfits = h })
+
+-- ---- tests: what a branch knows of x < y and of x <= y
+
+pub lt-true : {x y : ℤ} → ltZ x y ≡ true → x <ℤ y
+lt-true e = ltZ-yes (rw e tt)
+
+pub lt-false : {x y : ℤ} → ltZ x y ≡ false → y ≤ℤ x
+lt-false e = ltZ-no (rw e tt)
+
+pub le-true : {x y : ℤ} → leZ x y ≡ true → x ≤ℤ y
+le-true e = leZ-yes (rw e tt)
+
+pub le-false : {x y : ℤ} → leZ x y ≡ false → y <ℤ x
+le-false {x} {y} e = <-unless y x (λ h. rw e at (h .le))
+
+-- ---- a quotient toward zero is no larger than the dividend
+
+-- a divisor above 0 is not 0 as bits
+pub divisor : (d : ℤ) → pos 0 <ℤ d → 0 < ofZ w64 d
+divisor (pos n) h = omega (arith, of-lt h (search diff))
+divisor (negsuc n) h = absurd (h .lt)
+
+pub quot-mag : (s d : ℤ) → pos 0 <ℤ d → mag (quotZ s d) ≤ mag s
+quot-mag (pos a) (pos b) h = div-le-self a b
+quot-mag (negsuc a) (pos b) h = omega (arith, neg-mag (suc a / b), div-le-self (suc a) b)
+  where
+    neg-mag : (n : ℕ) → mag (negℤ (pos n)) ≤ n - 1
+    neg-mag zero = omega arith
+    neg-mag (suc n) = omega arith
+quot-mag (pos a) (negsuc b) h = absurd (h .lt)
+quot-mag (negsuc a) (negsuc b) h = absurd (h .lt)
+
+pub quot-fits : {s d : ℤ} → pos 0 <ℤ d → SFits w64 s → SFits w64 (quotZ s d)
+quot-fits {s} {d} h f = record { sfits = omega (arith, quot-mag s d h, f .sfits) }
+
+-- ---- -1 - x, which is x with its bits turned over
+
+pub flip-pos : (n : ℕ) → negsuc 0 -ℤ pos n ≡ negsuc n
+flip-pos n = d-eq (search diff) (omega arith)
+
+pub flip-negsuc : (n : ℕ) → negsuc 0 -ℤ negsuc n ≡ pos n
+flip-negsuc n = d-eq (search diff) (omega arith)
+
+pub flip-fits : {x : ℤ} → SFits w64 x → SFits w64 (negsuc 0 -ℤ x)
+flip-fits {x = pos n} f = rw (flip-pos n) (record { sfits = f .sfits })
+flip-fits {x = negsuc n} f = rw (flip-negsuc n) (record { sfits = f .sfits })
+
+-- of a negative x it is not negative, and one less than the size
+pub flip-size : (x : ℤ) → x <ℤ pos 0 → (natAbs (negsuc 0 -ℤ x) + 1 ≡ natAbs x) × T (nonNeg (negsuc 0 -ℤ x))
+flip-size (pos n) h = let z : ⊥ = omega (arith, of-lt h (search diff)) in absurd z
+flip-size (negsuc n) h = rw (flip-negsuc n) (add-one n, tt)

@@ -1,0 +1,84 @@
+-- Rounding by d, proved once over d: the rule of document 01 has exactly one number, `roundBy` computes it,
+-- and how far off and how large it is follows from `Near` alone.
+use mathlib.Core.Path.{_≡_}
+use mathlib.Core.List.{[], _∷_}
+use Prim.Native.Nat.{ℕ, _+_, _/_, _%_, _≤_, _<_}
+use native.Mathlib.Nat.{div-add-mod, mod-lt, le-div-iff-mul-le}
+use native.Mathlib.Omega.{arith}
+use lib.IntN.{ℤ, pos, negsuc, _+ℤ_, _-ℤ_, _*ℤ_}
+use lib.Signed.{_≤ℤ_, _<ℤ_, shrZ}
+use Rattle.whole.specs.Range.{Within}
+use Rattle.whole.specs.Round.{Rounded, Near, roundBy}
+use Rattle.whole.proofs.Difference.{diff, d-le, d-lt}
+use Rattle.whole.proofs.Certificate.{quo, ring!, le!, lt!, false!, g-le, g-lt, g-num, _⊞_, _⊠_}
+use Rattle.whole.proofs.Order.{≤-antisym, ≤-unless, le-ℤ}
+use Rattle.whole.proofs.Size.{sub, along, abs-of, abs-mul}
+
+-- ---- the quotient rounded down: d times it is at most z, and d times one more is above
+
+pub floor-low : (z : ℤ) (d : ℕ) → 0 < d → (pos d *ℤ shrZ z d) ≤ℤ z
+floor-low (pos a) d p = d-le (search diff) (omega (arith, div-add-mod a d))
+floor-low (negsuc a) d p = d-le (search diff) (omega (arith, div-add-mod a d, mod-lt a p))
+
+pub floor-high : (z : ℤ) (d : ℕ) → 0 < d → z <ℤ (pos d *ℤ shrZ z d +ℤ pos d)
+floor-high (pos a) d p = d-lt (search diff) (omega (arith, div-add-mod a d, mod-lt a p))
+floor-high (negsuc a) d p = d-lt (search diff) (omega (arith, div-add-mod a d))
+
+-- ---- the rounded number
+
+-- whatever d is, d times it is near
+pub round-near : (d : ℕ) → 0 < d → (A : ℤ) → Near d A (roundBy d A)
+unfolding roundBy
+round-near d p A =
+    let h = pos (d / 2) in
+    let y = shrZ (A +ℤ h) d in
+    let half : d ≤ d / 2 + d / 2 + 1 = omega arith in
+    record {
+      low = le! (pos d ∷ h ∷ A ∷ y ∷ []) (g-le (floor-low (A +ℤ h) d p)) (search quo depth 40) tt;
+      high = le! (pos d ∷ h ∷ A ∷ y ∷ []) (g-lt (floor-high (A +ℤ h) d p) ⊞ g-le (le-ℤ half)) (search quo depth 40) tt;
+    }
+
+-- for an even d it is the number that document 01 asks for
+pub round-is : (d : ℕ) → 0 < d → d % 2 ≡ 0 → (A : ℤ) → Rounded d A (roundBy d A)
+unfolding roundBy
+round-is d p even A =
+    let h = pos (d / 2) in
+    let y = shrZ (A +ℤ h) d in
+    let half : d ≤ d / 2 + d / 2 = omega arith in
+    record {
+      low = round-near d p A .low;
+      high = lt! (pos d ∷ h ∷ A ∷ y ∷ []) (g-lt (floor-high (A +ℤ h) d p) ⊞ g-le (le-ℤ half)) (search quo depth 40) tt;
+    }
+
+-- and no second number is
+pub round-unique : {d : ℕ} {A y z : ℤ} → Rounded d A y → Rounded d A z → y ≡ z
+round-unique {d} {A} r t = ≤-antisym (at-most r t) (at-most t r)
+  where
+    at-most : {y z : ℤ} → Rounded d A y → Rounded d A z → y ≤ℤ z
+    at-most {y} {z} r t =
+        let h = pos (d / 2) in
+        let half : d / 2 + d / 2 ≤ d = omega arith in
+        ≤-unless y z
+        (λ k. false! (pos d ∷ h ∷ A ∷ y ∷ z ∷ []) (g-le (r .low) ⊞ g-lt (t .high) ⊞ g-num d ⊠ g-lt k ⊞ g-le (le-ℤ half)) (search quo depth 40) tt)
+
+-- ---- what `Near` alone tells
+
+-- A is at most half of d away from d y
+pub round-error : {d : ℕ} {A y : ℤ} → Near d A y → Within (d / 2) (A -ℤ pos d *ℤ y)
+round-error {d} {A} {y} n =
+    let h = pos (d / 2) in
+    abs-of
+    (le! (pos d ∷ h ∷ A ∷ y ∷ []) (g-le (n .low)) (search quo depth 40) tt)
+    (le! (pos d ∷ h ∷ A ∷ y ∷ []) (g-le (n .high)) (search quo depth 40) tt)
+
+-- the same of the squares
+pub round-error-sq : {d : ℕ} {A y : ℤ} → Near d A y → ((A -ℤ pos d *ℤ y) *ℤ (A -ℤ pos d *ℤ y)) ≤ℤ (pos (d / 2) *ℤ pos (d / 2))
+round-error-sq {d} {A} {y} n =
+    le! (pos d ∷ pos (d / 2) ∷ A ∷ y ∷ []) (g-le (n .low) ⊠ g-le (n .high)) (search quo depth 40) tt
+
+-- how large a rounded number is
+pub round-bound : {d b : ℕ} {A y : ℤ} → 0 < d → Near d A y → Within b A → Within ((b + d / 2) / d) y
+round-bound {d} {b} {A} {y} p n w =
+    let e : pos d *ℤ y ≡ A -ℤ (A -ℤ pos d *ℤ y) = ring! (pos d ∷ A ∷ y ∷ []) (search quo depth 40) tt in
+    let k = along e (sub w (round-error n)) in
+    record { size = le-div-iff-mul-le p .1 (omega (arith, k .size, abs-mul (pos d) y)) }

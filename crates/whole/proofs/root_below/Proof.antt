@@ -1,0 +1,71 @@
+-- `whole::root_below` meets its contract. Throughout the loop the root is at least r and below r + w, and r + w is at most 2 ^ 32,
+-- so that no square overflows. The measure is w.
+use Prim.Native.Nat.{ℕ, _+_, _-_, _*_, _/_, _^_, _≤_, _<_}
+use native.Mathlib.Nat.{mul-le-mul, lt-of-lt-of-le}
+use native.Mathlib.Omega.{arith}
+use borrow.Author.Needs.{needs}
+use Rattle.whole.proofs.Roots.{floorRoot-is, floorRoot-unique}
+use Rattle.whole.proofs.root_below.Statement.{statement}
+use Rattle.whole.proofs.root_below.Tie as tie
+
+abbrev Inv-loop : tie.InvT-loop
+Inv-loop x width r₀ w₀ r w = (r * r ≤ x) × (x < (r + w) * (r + w)) × (r + w ≤ 2 ^ 32)
+
+abbrev μ-loop : tie.MeasureT-loop
+μ-loop x width r₀ w₀ r w = w
+
+-- a wider interval holds what a narrower one does
+wider : {x a b : ℕ} → x < a * a → a ≤ b → x < b * b
+wider h k = lt-of-lt-of-le h (mul-le-mul k k)
+
+loop-holds : tie.Need-loop-holds Inv-loop μ-loop
+loop-holds c = search needs
+
+sub-w : tie.Need-sub-w Inv-loop μ-loop
+sub-w c = search needs
+
+add-t : tie.Need-add-t Inv-loop μ-loop
+add-t c = search needs
+
+mul-if1 : tie.Need-mul-if1 Inv-loop μ-loop
+mul-if1 c =
+    let l = c .before .loop in
+    let t : l .r + l .w / 2 ≤ 2 ^ 32 - 1 = omega arith in
+    omega (arith, mul-le-mul t t)
+
+loop-less : tie.Need-loop-less Inv-loop μ-loop
+loop-less c = omega arith
+
+loop-again : tie.Need-loop-again Inv-loop μ-loop
+loop-again c =
+    let l = c .before .before .loop in
+    (omega arith, wider (l .inv .1) (omega arith), omega arith)
+
+loop-less-2 : tie.Need-loop-less-2 Inv-loop μ-loop
+loop-less-2 c = omega arith
+
+loop-again-2 : tie.Need-loop-again-2 Inv-loop μ-loop
+loop-again-2 c =
+    let l = c .before .before .loop in
+    (l .inv .0, wider {a = l .r + l .w / 2} (c .if1 .left) (omega arith), omega arith)
+
+returns : tie.Need-returns Inv-loop μ-loop
+returns c =
+    let l = c .before .loop in
+    floorRoot-unique (record { low = l .inv .0; high = wider (l .inv .1) (omega arith) }) (floorRoot-is _)
+
+pub root-below-spec : {M : Type 1} → statement M
+root-below-spec =
+    tie.close
+    (tie.spec
+    Inv-loop
+    μ-loop
+    loop-holds
+    sub-w
+    add-t
+    mul-if1
+    loop-less
+    loop-again
+    loop-less-2
+    loop-again-2
+    returns)

@@ -1,0 +1,39 @@
+-- `whole::root_up` meets its contract: the root rounded down, and one more unless its square is x itself.
+use mathlib.Core.Path.{_≡_}
+use Prim.Native.Nat.{ℕ, _+_, _*_, _^_, _≤_, _<_}
+use native.Mathlib.Omega.{arith}
+use borrow.Author.Needs.{needs}
+use Rattle.whole.specs.Root.{IsFloorRoot, IsRootUp, floorRoot}
+use Rattle.whole.proofs.Roots.{floorRoot-is, rootUp-is, rootUp-unique, sq-lt}
+use Rattle.whole.proofs.root_up.Statement.{statement}
+use Rattle.whole.proofs.root_up.Tie as tie
+
+module _ {x r : ℕ} (e : r ≡ floorRoot x) where
+  rooted : IsFloorRoot x r
+  rooted = rw e (floorRoot-is x)
+
+  one-more : r * r < x → IsRootUp x (r + 1)
+  one-more h =
+      record { reach = omega (arith, rooted .high); least = λ v k. omega (arith, sq-lt r v (omega (arith, h, k))) }
+
+  exact : x ≤ r * r → IsRootUp x r
+  exact h = record { reach = h; least = λ v k. omega (arith, sq-lt r (v + 1) (omega (arith, rooted .low, k))) }
+
+floor-root-requires : tie.Need-floor-root-requires
+floor-root-requires c κs = search needs
+
+mul-if1 : tie.Need-mul-if1
+mul-if1 c = omega (arith, rooted (c .floor-root .ensures) .low)
+
+add-result : tie.Need-add-result
+add-result c =
+    omega (arith, sq-lt (c .before .floor-root .result) (2 ^ 32) (omega (arith, rooted (c .before .floor-root .ensures) .low)))
+
+returns : tie.Need-returns
+returns c = rootUp-unique (one-more (c .before .floor-root .ensures) (c .if1 .taken)) (rootUp-is _)
+
+returns-2 : tie.Need-returns-2
+returns-2 c = rootUp-unique (exact (c .before .floor-root .ensures) (c .if1 .left)) (rootUp-is _)
+
+pub root-up-spec : {M : Type 1} → statement M
+root-up-spec = tie.close (tie.spec floor-root-requires mul-if1 add-result returns returns-2)

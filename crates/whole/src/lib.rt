@@ -1,0 +1,63 @@
+// Whole-number arithmetic of the relay: rounding by a divisor, and the root rounded down and up.
+ghost use mathlib.Core.Path.{_≡_};
+ghost use Prim.Native.Nat.{_*_, _<_, _≤_, _^_};
+ghost use lib.IntN.{pos, natAbs};
+ghost use lib.Signed.{_<ℤ_, shrZ};
+ghost use Rattle.whole.specs.Range.{Within};
+ghost use Rattle.whole.specs.Round.{roundBy};
+ghost use Rattle.whole.specs.Root.{floorRoot, rootUp};
+
+// The quotient rounded down, below zero too; the machine's own goes toward zero.
+fn floor_div(s: i64, d: i64) -> i64
+    requires { ⌜ pos 0 <ℤ d ⌝ }
+    ensures { λ r. ⌜ r ≡ shrZ s (natAbs d) ⌝ }
+{
+    if s < 0 { -1 - (-1 - s) / d } else { s / d }
+}
+
+// x rounded by d: how many times d goes into x, to the nearest whole number; a tie goes up.
+pub fn round_by(x: i64, d: i64) -> i64
+    requires { ⌜ (pos 0 <ℤ d) × Within (2 ^ 62) x × Within (2 ^ 62) d ⌝ }
+    ensures { λ r. ⌜ r ≡ roundBy (natAbs d) x ⌝ }
+{
+    floor_div(x + d / 2, d)
+}
+
+// The root rounded down of a number below the width's square. It is at least r and below r + w throughout, and each turn halves w.
+// How often that is does not hang on x, so a call with a literal width is unrolled.
+fn root_below(x: u64, width: u64) -> u64
+    requires { ⌜ (x < width * width) × (width ≤ 2 ^ 32) ⌝ }
+    ensures { λ r. ⌜ r ≡ floorRoot x ⌝ }
+{
+    let mut r: u64 = 0;
+    let mut w = width;
+    while 1 < w {
+        let h = w / 2;
+        w = w - h;
+        let t = r + h;
+        if t * t <= x {
+            r = t;
+        }
+    }
+    r
+}
+
+// The root rounded down: a magnitude in whole counts, from its square.
+// What the relay takes roots of is below 2^50, where twenty-five steps do.
+pub fn floor_root(x: u64) -> u64
+    ensures { λ r. ⌜ r ≡ floorRoot x ⌝ }
+{
+    if x < 1125899906842624 {
+        root_below(x, 33554432)
+    } else {
+        root_below(x, 4294967296)
+    }
+}
+
+// The root rounded up: the smallest number whose square is at least x. Restraint is measured so, and never comes out too small.
+pub fn root_up(x: u64) -> u64
+    ensures { λ r. ⌜ r ≡ rootUp x ⌝ }
+{
+    let r = floor_root(x);
+    if r * r < x { r + 1 } else { r }
+}
