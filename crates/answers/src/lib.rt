@@ -16,19 +16,20 @@ pub enum Answer {
 }
 
 pub const DONE: u64 = 0;
-pub const NO_SETTINGS: u64 = 1;
-pub const NO_ROOM: u64 = 3;
-pub const ENTRY_LENGTH: u64 = 5;
-pub const OUT_OF_RANGE: u64 = 6;
-pub const NOTHING_PENDING: u64 = 7;
-pub const DIFFERS: u64 = 8;
-pub const NO_RELAY: u64 = 17;
 
-fn wide(x: u8) -> u64
-    ensures { λ r. ⌜ (r ≡ x) × (r < 256) ⌝ }
-{
-    x as u64
-}
+pub const NO_SETTINGS: u64 = 1;
+
+pub const NO_ROOM: u64 = 3;
+
+pub const ENTRY_LENGTH: u64 = 5;
+
+pub const OUT_OF_RANGE: u64 = 6;
+
+pub const NOTHING_PENDING: u64 = 7;
+
+pub const DIFFERS: u64 = 8;
+
+pub const NO_RELAY: u64 = 17;
 
 // The number of an answer.
 fn number(a: Answer) -> u64
@@ -66,5 +67,6 @@ fn place(a: Answer) -> u8
 pub fn given_back(a: Answer) -> u64
     ensures { λ r. ⌜ r ≡ givenBack a ⌝ }
 {
-    256 * wide(place(a)) + number(a)
+    let at = place(a);
+    256 * (at as u64) + number(a)
 }

@@ -1,5 +1,5 @@
 -- No second result meets a claim: each says by one equation what the number is, and by one what is left.
-use Prim.Native.Nat.{ℕ, _<_}
+use Prim.Native.Nat.{_<_}
 use native.Mathlib.Omega.{arith}
 use Rattle.answers.specs.declared.Answer.{Answer}
 use Rattle.answers.specs.declared.Answer.the-variants.{Done, NoSettings, NoRoom, EntryLength, OutOfRange, NothingPending, Differs, NoRelay}

@@ -1,5 +1,5 @@
 -- What a call does to a relay of 64 bytes, in terms of its pair of records alone.
-use Prim.Native.Nat.{ℕ, _+_, _≤_}
+use Prim.Native.Nat.{ℕ}
 use mathlib.Core.Path.{_≡_, ap, _∙_}
 use mathlib.Core.List.{List}
 use native.Mathlib.Omega.{arith}
@@ -12,7 +12,7 @@ use Rattle.settings.specs.Check.{checked}
 use Rattle.entry.specs.Pair.{Pair}
 use Rattle.entry.specs.Entry.{proposeAnswer, proposed, confirmAnswer, confirmed}
 use Rattle.entry.proofs.Pairs.{pair-again, with-pair-length}
-use Rattle.entry.proofs.Done.{Whole, proposed-whole, confirmed-whole}
+use Rattle.entry.proofs.Done.{Sized, proposed-sized, confirmed-sized}
 use Rattle.gorsepetal.specs.State.{settingsOf, withSettings}
 use Rattle.gorsepetal.specs.Calls.{Proposed, Confirmed}
 
@@ -23,14 +23,14 @@ pub record Left (a : Answer) (p : Pair) (n : ℕ) (after : List ℕ) : Type 0 wh
   pub relay : length after ≡ 64
 
 module _ (s : List ℕ) (l : length s ≡ 64) where
-  pub whole : Whole (settingsOf s)
-  whole =
+  pub sized : Sized (settingsOf s)
+  sized =
       record {
         force = length-take-le 32 s (omega arith);
         pending = length-take-le 32 (drop 32 s) (simp length-drop (omega arith));
       }
 
-  left : (a : Answer) (p : Pair) (n : ℕ) (after : List ℕ) → Whole p → n ≡ givenBack a → after ≡ withSettings s p → Left a p n after
+  left : (a : Answer) (p : Pair) (n : ℕ) (after : List ℕ) → Sized p → n ≡ givenBack a → after ≡ withSettings s p → Left a p n after
   left a p n after w g k =
       record {
         given = g;
@@ -42,12 +42,12 @@ module _ (s : List ℕ) (l : length s ≡ 64) where
     pub propose-left : Proposed s e n after → Left (proposeAnswer (checked e) e) (proposed (checked e) (settingsOf s) e) n after
     propose-left c =
         let t = eq-eqb (length s) 64 l in
-        left (proposeAnswer (checked e) e) (proposed (checked e) (settingsOf s) e) n after (proposed-whole (checked e) (settingsOf s) e whole)
+        left (proposeAnswer (checked e) e) (proposed (checked e) (settingsOf s) e) n after (proposed-sized (checked e) (settingsOf s) e sized)
         (c .given ∙ rw t) (c .state ∙ rw t)
 
     pub confirm-left : Confirmed s e n after → Left (confirmAnswer (checked (settingsOf s .pending)) (settingsOf s) e) (confirmed (checked (settingsOf s .pending)) (settingsOf s) e) n after
     confirm-left c =
         let t = eq-eqb (length s) 64 l in
         let f = checked (settingsOf s .pending) in
-        left (confirmAnswer f (settingsOf s) e) (confirmed f (settingsOf s) e) n after (confirmed-whole f (settingsOf s) e whole)
+        left (confirmAnswer f (settingsOf s) e) (confirmed f (settingsOf s) e) n after (confirmed-sized f (settingsOf s) e sized)
         (c .given ∙ rw t) (c .state ∙ rw t)

@@ -1,5 +1,5 @@
 -- What the desk may rely on, call by call.
-use Prim.Native.Nat.{ℕ, _+_, _≤_}
+use Prim.Native.Nat.{ℕ, _+_, _*_}
 use mathlib.Core.Path.{_≡_, refl, sym, ap, _∙_}
 use mathlib.Core.List.{List, _++_}
 use mathlib.Core.Bool.{Bool, true, false, cond}
@@ -8,19 +8,23 @@ use borrow.Author.Tests.{eq-eqb, ne-eqb, le-leb, eqb-true}
 use lib.ListN.{length, take, drop}
 use lib.Seq.{take-at, drop-at}
 use lib.Dec.{eqb}
-use Rattle.answers.specs.declared.Answer.the-variants.{NoRelay}
+use Rattle.answers.specs.declared.Answer.the-variants.{EntryLength, NoRelay}
 use Rattle.answers.specs.Answers.{givenBack}
 use Rattle.answers.proofs.Numbers.{zero-is, not-zero-refused}
-use Rattle.lent.proofs.Differences.{compared-same, compared-self}
+use Rattle.lent.specs.declared.Compared.{Compared}
+use Rattle.lent.specs.declared.Compared.the-variants.{Same, Differ}
+use Rattle.lent.specs.Lent.{compared}
+use Rattle.lent.proofs.Differences.{compared-first, compared-same, compared-self}
+use Rattle.settings.specs.declared.Checked.{Checked}
 use Rattle.settings.specs.declared.Checked.the-variants.{Good, Bad}
 use Rattle.settings.specs.Check.{checked}
 use Rattle.entry.specs.Pair.{nothing}
-use Rattle.entry.specs.Entry.{proposeAnswer, confirmAnswer}
+use Rattle.entry.specs.Entry.{ofPending, ofCompare, proposeAnswer, confirmAnswer}
 use Rattle.entry.proofs.Done.{confirm-done}
 use Rattle.gorsepetal.specs.State.{settingsOf}
-use Rattle.gorsepetal.specs.Calls.{Proposed, Confirmed, ReadBack, readBackAnswer}
-use Rattle.claims.specs.Settings.{GoodComesIntoForce, ConfirmedReadsBack, RefusedProposal, RefusedConfirmation, NoThirdEntry, RefusedReadBack, NoRelayNoChange}
-use Rattle.claims.proofs.Relay.{Left, whole, propose-left, confirm-left}
+use Rattle.gorsepetal.specs.Calls.{Confirmed, readBackAnswer}
+use Rattle.claims.specs.Settings.{GoodComesIntoForce, ConfirmedReadsBack, RefusedProposal, RefusedConfirmation, NoThirdEntry, DiffersAtFirst, RefusedReadBack, NoRelayNoChange}
+use Rattle.claims.proofs.Relay.{sized, propose-left, confirm-left}
 use Rattle.claims.proofs.Demand1.{blank}
 
 pub refused-proposal : RefusedProposal
@@ -47,13 +51,26 @@ good-comes-into-force s e n m s₁ s₂ l le good c c′ =
     let t = eq-eqb (length e) 32 le in
     let k = propose-left s l e n s₁ c in
     let pending : settingsOf s₁ .pending ≡ e = ap (λ p. p .pending) (k .pair) ∙ rw (t, good) in
-    let k′ = confirm-left s₁ (k .relay) e m s₂ c′ in
-    (
+    let k′ = confirm-left s₁ (k .relay) e m s₂ c′ in (
       k .given ∙ rw (t, good),
       k′ .given ∙ rw (t, pending, good, compared-self e),
       ap (λ p. p .force) (k′ .pair) ∙ rw (t, pending, good, compared-self e),
       ap (λ p. p .pending) (k′ .pair),
     )
+
+-- an answer of 8 comes from the comparison alone, with its place
+answer-8 : (b r : Bool) (f : Checked) (d : Compared) (k : ℕ) → 256 * k + 8 ≡ givenBack (cond r (cond b (ofPending f (ofCompare d)) EntryLength) NoRelay) → d ≡ Differ k
+answer-8 true true Good Same k z = let x : ⊥ = omega arith in absurd x
+answer-8 true true Good (Differ i) k z = ap Differ (omega arith)
+answer-8 true true (Bad i) d k z = let x : ⊥ = omega arith in absurd x
+answer-8 false true f d k z = let x : ⊥ = omega arith in absurd x
+answer-8 b false f d k z = let x : ⊥ = omega arith in absurd x
+
+pub differs-at-first : DiffersAtFirst
+differs-at-first s e k s₁ c =
+    let p = settingsOf s .pending in
+    let first = compared-first k p e (answer-8 (eqb (length e) 32) (eqb (length s) 64) (checked p) (compared p e) k (c .given)) in
+    (first .before, first .there)
 
 pub no-relay-no-change : NoRelayNoChange
 no-relay-no-change s e n after f =
@@ -78,14 +95,13 @@ confirmed-reads-back s e s₁ out n after c b room =
     let f = checked (settingsOf s .pending) in
     let is-done = zero-is (confirmAnswer f (settingsOf s) e) (sym (k .given)) in
     let done = confirm-done f (settingsOf s) e (rw is-done) in
-    let same : settingsOf s .pending ≡ e = compared-same (settingsOf s .pending) e (whole s l .pending ∙ sym (done .0)) (done .2) in
+    let same : settingsOf s .pending ≡ e = compared-same (settingsOf s .pending) e (sized s l .pending ∙ sym (done .0)) (done .2) in
     let good : checked e ≡ Good = rw same at (done .1) in
     let force : settingsOf s₁ .force ≡ e = ap (λ p. p .force) (k .pair) ∙ rw is-done in
     let t = eq-eqb (length s₁) 64 (k .relay) in
     let w = le-leb 32 (length out) room in
     let written : after ≡ e ++ drop (0 + length e) out = b .buffer ∙ rw (t, force, good, w) in
-    let le : length e ≡ 32 = done .0 in
-    (
+    let le : length e ≡ 32 = done .0 in (
       b .given ∙ rw (t, force, good, w),
       ap (take 32) written ∙ take-at e (drop (0 + length e) out) 32 le,
       ap (drop 32) written ∙ drop-at e (drop (0 + length e) out) 32 le ∙ rw le,

@@ -1,18 +1,18 @@
 -- Document 01, "Settings record" and "Numbers given back": what the desk may rely on, call by call. A relay is a state of 64 bytes.
-use Prim.Native.Nat.{ℕ, _≤_}
+use Prim.Native.Nat.{ℕ, _+_, _*_, _≤_}
 use mathlib.Core.Path.{_≡_}
 use mathlib.Core.List.{List}
-use lib.ListN.{length, take, drop}
+use lib.ListN.{length, take, drop, getD}
 use Rattle.settings.specs.declared.Checked.the-variants.{Good}
 use Rattle.settings.specs.Check.{checked}
 use Rattle.entry.specs.Pair.{nothing}
-use Rattle.gorsepetal.specs.State.{settingsOf}
+use Rattle.gorsepetal.specs.State.{stateLength, settingsOf}
 use Rattle.gorsepetal.specs.Calls.{Proposed, Confirmed, ReadBack}
 
 -- A good record, proposed and then confirmed with the same bytes, is answered 0 twice and is in force. (So no relay refuses all calls.)
 abbrev pub GoodComesIntoForce : Type 0
 GoodComesIntoForce =
-    (s e : List ℕ) (n m : ℕ) (s₁ s₂ : List ℕ) → length s ≡ 64 → length e ≡ 32 → checked e ≡ Good → Proposed s e n s₁ → Confirmed s₁ e m s₂
+    (s e : List ℕ) (n m : ℕ) (s₁ s₂ : List ℕ) → length s ≡ stateLength → length e ≡ 32 → checked e ≡ Good → Proposed s e n s₁ → Confirmed s₁ e m s₂
     → (n ≡ 0) × (m ≡ 0) × (settingsOf s₂ .force ≡ e) × (settingsOf s₂ .pending ≡ nothing)
 
 -- Demand 2's part here: a record whose confirmation was answered 0, read back, is the same 32 bytes, and later bytes stay.
@@ -24,19 +24,25 @@ ConfirmedReadsBack =
 -- A refused entry drops the pending record, and never the one in force.
 abbrev pub RefusedProposal : Type 0
 RefusedProposal =
-    (s e : List ℕ) (n : ℕ) (s₁ : List ℕ) → length s ≡ 64 → Proposed s e n s₁ → (n ≡ 0 → ⊥)
+    (s e : List ℕ) (n : ℕ) (s₁ : List ℕ) → length s ≡ stateLength → Proposed s e n s₁ → (n ≡ 0 → ⊥)
     → (settingsOf s₁ .force ≡ settingsOf s .force) × (settingsOf s₁ .pending ≡ nothing)
 
 abbrev pub RefusedConfirmation : Type 0
 RefusedConfirmation =
-    (s e : List ℕ) (n : ℕ) (s₁ : List ℕ) → length s ≡ 64 → Confirmed s e n s₁ → (n ≡ 0 → ⊥)
+    (s e : List ℕ) (n : ℕ) (s₁ : List ℕ) → length s ≡ stateLength → Confirmed s e n s₁ → (n ≡ 0 → ⊥)
     → (settingsOf s₁ .force ≡ settingsOf s .force) × (settingsOf s₁ .pending ≡ nothing)
 
 -- After a confirmation, refused or not, a further one of 32 bytes is answered 7: no third entry slips in after a mismatch.
 abbrev pub NoThirdEntry : Type 0
 NoThirdEntry =
-    (s e e′ : List ℕ) (n n′ : ℕ) (s₁ s₂ : List ℕ) → length s ≡ 64 → length e′ ≡ 32 → Confirmed s e n s₁ → Confirmed s₁ e′ n′ s₂
+    (s e e′ : List ℕ) (n n′ : ℕ) (s₁ s₂ : List ℕ) → length s ≡ stateLength → length e′ ≡ 32 → Confirmed s e n s₁ → Confirmed s₁ e′ n′ s₂
     → n′ ≡ 7
+
+-- Refusal 8 is at the first differing offset: the entry and the pending record agree before it, and not there.
+abbrev pub DiffersAtFirst : Type 0
+DiffersAtFirst =
+    (s e : List ℕ) (k : ℕ) (s₁ : List ℕ) → Confirmed s e (256 * k + 8) s₁
+    → (take k (settingsOf s .pending) ≡ take k e) × (getD (settingsOf s .pending) k 0 ≡ getD e k 0 → ⊥)
 
 -- A refused read-back writes nothing.
 abbrev pub RefusedReadBack : Type 0
@@ -45,5 +51,5 @@ RefusedReadBack = (s out : List ℕ) (n : ℕ) (after : List ℕ) → ReadBack s
 -- A state slice of another length is answered 17, before all others, and nothing changes.
 abbrev pub NoRelayNoChange : Type 0
 NoRelayNoChange =
-    (s e : List ℕ) (n : ℕ) (after : List ℕ) → (length s ≡ 64 → ⊥)
+    (s e : List ℕ) (n : ℕ) (after : List ℕ) → (length s ≡ stateLength → ⊥)
     → (Proposed s e n after → (n ≡ 17) × (after ≡ s)) × (Confirmed s e n after → (n ≡ 17) × (after ≡ s)) × (ReadBack s e n after → (n ≡ 17) × (after ≡ e))

@@ -1,7 +1,7 @@
 -- Each way out of `propose` and `confirm`, on plain lists: what the tests on the way found decides the answer and what is left.
 use Prim.Native.Nat.{ℕ, _+_, _-_, _<_, _≤_}
 use mathlib.Core.Path.{_≡_, sym, _∙_}
-use mathlib.Core.List.{List, _++_}
+use mathlib.Core.List.{List}
 use borrow.Author.Tests.{eq-eqb, ne-eqb}
 use lib.ListN.{length, take, drop, length-take}
 use native.Mathlib.Omega.{arith}
@@ -9,7 +9,7 @@ use Rattle.answers.specs.declared.Answer.the-variants.{Done, EntryLength, OutOf
 use Rattle.lent.specs.declared.Compared.{Compared}
 use Rattle.lent.specs.declared.Compared.the-variants.{Same, Differ}
 use Rattle.lent.specs.Lent.{over, compared}
-use Rattle.lent.proofs.Differences.{Below, compared-below}
+use Rattle.lent.proofs.Differences.{compared-below}
 use Rattle.settings.specs.declared.Checked.{Checked}
 use Rattle.settings.specs.declared.Checked.the-variants.{Good, Bad}
 use Rattle.entry.specs.Pair.{nothing}

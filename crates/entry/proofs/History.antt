@@ -12,14 +12,14 @@ use Rattle.settings.specs.declared.Checked.the-variants.{Good}
 use Rattle.entry.specs.Pair.{Pair, nothing}
 use Rattle.entry.specs.Entry.{proposeAnswer, confirmAnswer}
 use Rattle.entry.specs.Log.{propose, confirm, Log, _▷_, Leads, from-fresh, by-propose, by-confirm, SaidTwice, twice, later}
-use Rattle.entry.proofs.Done.{Whole, proposed-whole, confirmed-whole, confirm-done}
+use Rattle.entry.proofs.Done.{Sized, proposed-sized, confirmed-sized, confirm-done}
 use Prim.Native.Nat.{ℕ}
 
 module _ (check : List ℕ → Checked) (blank : check nothing ≡ Good → ⊥) where
-  leads-whole : {l : Log} {p : Pair} → Leads check l p → Whole p
-  leads-whole from-fresh = record { force = refl; pending = refl }
-  leads-whole (by-propose {p = p} d e) = proposed-whole (check e) p e (leads-whole d)
-  leads-whole (by-confirm {p = p} d e) = confirmed-whole (check (p .pending)) p e (leads-whole d)
+  leads-sized : {l : Log} {p : Pair} → Leads check l p → Sized p
+  leads-sized from-fresh = record { force = refl; pending = refl }
+  leads-sized (by-propose {p = p} d e) = proposed-sized (check e) p e (leads-sized d)
+  leads-sized (by-confirm {p = p} d e) = confirmed-sized (check (p .pending)) p e (leads-sized d)
 
   -- a good pending record is the last entry, proposed and answered 0
   data Said (r : List ℕ) : Log → Type 0 where
@@ -45,6 +45,6 @@ module _ (check : List ℕ → Checked) (blank : check nothing ≡ Good → ⊥)
       by-test : (b : Bool) → isDone (confirmAnswer (check (p .pending)) p e) ≡ b → (check (p .force) ≡ Good → SaidTwice (p .force) l) → check (cond b e (p .force)) ≡ Good → SaidTwice (cond b e (p .force)) (l ▷ confirm e (givenBack (confirmAnswer (check (p .pending)) p e)))
       by-test true t before g =
           let done = confirm-done (check (p .pending)) p e t in
-          let same : p .pending ≡ e = compared-same (p .pending) e (leads-whole d .pending ∙ sym (done .0)) (done .2) in
+          let same : p .pending ≡ e = compared-same (p .pending) e (leads-sized d .pending ∙ sym (done .0)) (done .2) in
           rw (done-zero (confirmAnswer (check (p .pending)) p e) t) (said-twice (rw same at (pending-said d (done .1))))
       by-test false t before g = later (before g) (refused-not-zero (confirmAnswer (check (p .pending)) p e) t)

@@ -12,6 +12,7 @@ use Rattle.answers.specs.Answers.{isDone}
 use Rattle.lent.specs.declared.Compared.{Compared}
 use Rattle.lent.specs.declared.Compared.the-variants.{Same, Differ}
 use Rattle.lent.specs.Lent.{compared}
+use Rattle.settings.specs.Record.{recordLength}
 use Rattle.settings.specs.declared.Checked.{Checked}
 use Rattle.settings.specs.declared.Checked.the-variants.{Good, Bad}
 use Rattle.entry.specs.Pair.{Pair, nothing, pairAt, withPair}
@@ -37,7 +38,7 @@ ifDone a done refused = cond (isDone a) done refused
 
 -- "Propose: 5, 6." Refusal 5: an entry that is not 32 bytes.
 abbrev pub proposeAnswer : Checked → List ℕ → Answer
-proposeAnswer found e = cond (eqb (length e) 32) (ofCheck found) EntryLength
+proposeAnswer found e = cond (eqb (length e) recordLength) (ofCheck found) EntryLength
 
 -- "To propose a good record makes it pending, in place of any earlier pending one. Any refused propose leaves nothing pending and the
 -- record in force unchanged."
@@ -46,7 +47,7 @@ proposed found p e = record { force = p .force; pending = ifDone (proposeAnswer 
 
 -- "Confirm: 5, 7, 8."
 abbrev pub confirmAnswer : Checked → Pair → List ℕ → Answer
-confirmAnswer found p e = cond (eqb (length e) 32) (ofPending found (ofCompare (compared (p .pending) e))) EntryLength
+confirmAnswer found p e = cond (eqb (length e) recordLength) (ofPending found (ofCompare (compared (p .pending) e))) EntryLength
 
 -- "To confirm with the same 32 bytes puts it in force and leaves nothing pending. Any refused confirm leaves nothing pending and the
 -- record in force unchanged."

@@ -18,7 +18,6 @@ pub data Log : Type 0 where
   _▷_ : Log → Entry → Log
 
 infixl 5 _▷_
-
 -- The log and the pair that it leads to, from a fresh pair on.
 pub data Leads (check : List ℕ → Checked) : Log → Pair → Type 0 where
   from-fresh : Leads check start fresh

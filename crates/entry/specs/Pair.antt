@@ -3,21 +3,23 @@ use Prim.Native.Nat.{ℕ, _+_}
 use mathlib.Core.List.{List, _++_}
 use lib.ListN.{take, drop, replicate}
 use Rattle.lent.specs.Lent.{over}
+use Rattle.settings.specs.Record.{recordLength}
 
 pub record Pair : Type 0 where
   pub force : List ℕ
   pub pending : List ℕ
 
--- No record: 32 zero bytes. "A fresh relay has nothing in force and nothing pending."
+-- No record: zero bytes. "A fresh relay has nothing in force and nothing pending."
 abbrev pub nothing : List ℕ
-nothing = replicate 32 0
+nothing = replicate recordLength 0
 
 abbrev pub fresh : Pair
 fresh = record { force = nothing; pending = nothing }
 
 -- The pair at an offset of a state.
 abbrev pub pairAt : ℕ → List ℕ → Pair
-pairAt at s = record { force = take 32 (drop at s); pending = take 32 (drop (at + 32) s) }
+pairAt at s =
+    record { force = take recordLength (drop at s); pending = take recordLength (drop (at + recordLength) s) }
 
 -- The state with a pair written there; every other byte stays.
 abbrev pub withPair : ℕ → List ℕ → Pair → List ℕ

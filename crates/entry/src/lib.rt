@@ -3,7 +3,7 @@
 ghost use mathlib.Core.Path.{_≡_};
 ghost use Prim.Native.Nat.{_+_, _≤_};
 ghost use lib.ListN.{length};
-ghost use Rattle.entry.specs.Pair.{pairAt, withPair, nothing};
+ghost use Rattle.entry.specs.Pair.{nothing};
 ghost use Rattle.entry.specs.Entry.{Proposed, Confirmed};
 ghost use Rattle.lent.specs.Lent.{over};
 use answers::Answer;
@@ -12,13 +12,16 @@ use settings::Checked;
 
 pub const RECORD_LENGTH: usize = 32;
 
+// The record in force, and then the pending one.
+const PAIR_LENGTH: usize = 64;
+
 // Nothing is pending in the pair at an offset.
 fn clear(state: &mut [u8], at: usize)
     requires { ⌜ at + 64 ≤ length (now state) ⌝ }
     ensures { λ _. ⌜ now (state .exit) ≡ over (now (state .entry)) (at + 32) nothing ⌝ }
 {
-    let zeros = [0u8; 32];
-    lent::put(state, at + 32, &zeros);
+    let zeros = [0u8; RECORD_LENGTH];
+    lent::put(state, at + RECORD_LENGTH, &zeros);
 }
 
 // An entry proposed for the pair at an offset; `found` is what the check finds in the entry.
@@ -36,7 +39,7 @@ pub fn propose(state: &mut [u8], at: usize, entry: &[u8], found: Checked) -> Ans
             Answer::OutOfRange(k)
         }
         Checked::Good => {
-            lent::put(state, at + 32, entry);
+            lent::put(state, at + RECORD_LENGTH, entry);
             Answer::Done
         }
     }
@@ -57,8 +60,8 @@ pub fn confirm(state: &mut [u8], at: usize, entry: &[u8], found: Checked) -> Ans
             Answer::NothingPending
         }
         Checked::Good => {
-            let from = at + 32;
-            let to = at + 64;
+            let from = at + RECORD_LENGTH;
+            let to = at + PAIR_LENGTH;
             match lent::compare(&state[from..to], entry) {
                 Compared::Differ(k) => {
                     clear(state, at);

@@ -5,7 +5,6 @@ use mathlib.Core.List.{List}
 use borrow.Author.Tests.{eq-eqb, ne-eqb, le-leb, lt-leb}
 use lib.ListN.{length}
 use Rattle.answers.specs.declared.Answer.{Answer}
-use Rattle.answers.specs.declared.Answer.the-variants.{Done, NoSettings, NoRoom, NoRelay}
 use Rattle.answers.specs.Answers.{givenBack}
 use Rattle.lent.specs.Lent.{over}
 use Rattle.settings.specs.declared.Checked.{Checked}
@@ -33,7 +32,7 @@ module _ {s e after : List ℕ} {n : ℕ} where
         let t = eq-eqb (length s) 64 l in
         record { given = rw (t, ← f) (g ∙ ap givenBack (p .answer)); state = rw (t, ← f) (p .state) }
 
--- `e` is the lent buffer here
+  -- `e` is the lent buffer here
   pub read-17 : (length s ≡ 64 → ⊥) → n ≡ 17 → after ≡ e → ReadBack s e n after
   read-17 l g k = let t = ne-eqb (length s) 64 l in record { given = rw t g; buffer = rw t k }
 

@@ -9,10 +9,10 @@ use Rattle.answers.specs.declared.Answer.{Answer}
 use Rattle.answers.specs.declared.Answer.the-variants.{Done, NoSettings, NoRoom, NoRelay}
 use Rattle.answers.specs.Answers.{givenBack}
 use Rattle.lent.specs.Lent.{over}
+use Rattle.settings.specs.Record.{recordLength}
 use Rattle.settings.specs.declared.Checked.{Checked}
 use Rattle.settings.specs.declared.Checked.the-variants.{Good, Bad}
 use Rattle.settings.specs.Check.{checked}
-use Rattle.entry.specs.Pair.{Pair}
 use Rattle.entry.specs.Entry as entry
 use Rattle.gorsepetal.specs.State.{stateLength, settingsOf, withSettings}
 
@@ -41,7 +41,7 @@ ofForce (Bad k) a = NoSettings
 
 -- "Read-back: 1, 3." Refusal 3: room below 32 bytes.
 abbrev pub readBackAnswer : List ℕ → List ℕ → Answer
-readBackAnswer s out = cond (isRelay s) (ofForce (checked (settingsOf s .force)) (cond (leb 32 (length out)) Done NoRoom)) NoRelay
+readBackAnswer s out = cond (isRelay s) (ofForce (checked (settingsOf s .force)) (cond (leb recordLength (length out)) Done NoRoom)) NoRelay
 
 -- "Read-back writes the 32 bytes of the record in force at the front of the lent buffer; later bytes stay."
 abbrev pub readBackOut : List ℕ → List ℕ → List ℕ

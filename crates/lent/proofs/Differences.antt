@@ -1,11 +1,12 @@
--- What a comparison's finding means: no difference is equality, and a difference lies inside.
-use Prim.Native.Nat.{ℕ, suc, _+_, _<_, _≤_}
-use mathlib.Core.Path.{_≡_, refl, ap₂}
+-- What a comparison's finding means: a difference lies inside and is the first; no difference is equality.
+use Prim.Native.Nat.{ℕ, suc, _+_, _-_, _<_, _≤_}
+use mathlib.Core.Path.{_≡_, refl, sym, ap₂}
 use mathlib.Core.List.{List, [], _∷_}
 use mathlib.Core.Bool.{Bool, true, false, cond}
+use native.Mathlib.Nat.{sub-zero}
 use native.Mathlib.Omega.{arith}
-use borrow.Author.Tests.{eq-eqb, eqb-true}
-use lib.ListN.{length}
+use borrow.Author.Tests.{eq-eqb, eqb-true, eqb-false}
+use lib.ListN.{length, take, getD}
 use lib.Dec.{eqb}
 use Rattle.lent.specs.Lent.{differFrom, compared}
 use Rattle.lent.specs.declared.Compared.{Compared}
@@ -32,6 +33,33 @@ compared-below n xs ys h = differ-below 0 n xs ys (omega arith)
 
 differ-not-same : (k : ℕ) → Differ k ≡ Same → ⊥
 differ-not-same k e = let z : _≡_ {A = ℕ} 0 1 = cc in omega arith
+
+-- The first difference: two lists agree before a place, and not there.
+pub record FirstAt (xs ys : List ℕ) (k : ℕ) : Type 0 where
+  pub before : take k xs ≡ take k ys
+  pub there : getD xs k 0 ≡ getD ys k 0 → ⊥
+
+first-from : (j k : ℕ) (xs ys : List ℕ) → differFrom j xs ys ≡ Differ k → (j ≤ k) × FirstAt xs ys (k - j)
+unfolding differFrom
+first-from j k [] ys e = absurd (differ-not-same k (sym e))
+first-from j k (x ∷ xs) [] e = absurd (differ-not-same k (sym e))
+first-from j k (x ∷ xs) (y ∷ ys) e = by-test (eqb x y) refl (λ d. first-from (suc j) k xs ys d) e
+  where
+    by-test :
+        (b : Bool) → eqb x y ≡ b → (differFrom (suc j) xs ys ≡ Differ k → (suc j ≤ k) × FirstAt xs ys (k - suc j)) →
+        cond b (differFrom (suc j) xs ys) (Differ j) ≡ Differ k → (j ≤ k) × FirstAt (x ∷ xs) (y ∷ ys) (k - j)
+    by-test true t rest e =
+        let r = rest e in
+        let n : k - j ≡ suc (k - suc j) = omega (arith, r .0) in
+        (omega (arith, r .0), rw n (record { before = ap₂ _∷_ (eqb-true x y t) (r .1 .before); there = r .1 .there }))
+    by-test false t rest e =
+        let n : j ≡ k = cc in
+        let z : k - j ≡ 0 = omega arith in
+        (omega arith, rw z (record { before = refl; there = eqb-false x y t }))
+
+pub compared-first : (k : ℕ) (xs ys : List ℕ) → compared xs ys ≡ Differ k → FirstAt xs ys k
+unfolding compared
+compared-first k xs ys e = rw (sub-zero k) at (first-from 0 k xs ys e .1)
 
 same-from : (j : ℕ) (xs ys : List ℕ) → length xs ≡ length ys → differFrom j xs ys ≡ Same → xs ≡ ys
 unfolding differFrom

@@ -2,7 +2,7 @@
 use Prim.Native.Nat.{ℕ}
 use mathlib.Core.Path.{_≡_, refl}
 use mathlib.Core.List.{List, [], _∷_}
-use mathlib.Core.Bool.{Bool, true, false, cond, _&&_}
+use mathlib.Core.Bool.{Bool, true, false, cond, and-eq-true-iff}
 use native.Mathlib.Omega.{arith}
 use borrow.Author.Tests.{leb-true}
 use lib.Dec.{leb}
@@ -10,7 +10,6 @@ use lib.IntN.{ℤ}
 use lib.Signed.{leZ}
 use Rattle.whole.proofs.Machine.{le-true, lt-true}
 use Rattle.settings.specs.declared.Rule.{Rule}
-use Rattle.settings.specs.declared.Checked.{Checked}
 use Rattle.settings.specs.declared.Checked.the-variants.{Good, Bad}
 use Rattle.settings.specs.Table.{table}
 use Rattle.settings.specs.Check.{within, withinSigned, holds, place, checkedBy, checked}
@@ -23,9 +22,6 @@ AllHold (r ∷ rs) s = (holds s r ≡ true) × AllHold rs s
 
 bad-not-good : (k : ℕ) → Bad k ≡ Good → ⊥
 bad-not-good k e = let z : _≡_ {A = ℕ} 0 1 = cc in omega arith
-
-false-not-true : false ≡ true → ⊥
-false-not-true e = let z : _≡_ {A = ℕ} 0 1 = cc in omega arith
 
 -- A record is good by a table exactly where every rule holds.
 pub all-hold : (rs : List Rule) (s : List ℕ) → checkedBy rs s ≡ Good → AllHold rs s
@@ -42,18 +38,14 @@ unfolding checkedBy
 good [] s h = refl
 good (r ∷ rs) s h = rw (h .0) (good rs s (h .1))
 
-parts : (a b : Bool) → a && b ≡ true → (a ≡ true) × (b ≡ true)
-parts true b t = (refl, t)
-parts false b t = absurd (false-not-true t)
-
 from : (low high v : ℕ) → within low high v ≡ true → From low high v
 from low high v t =
-    let p = parts (leb low v) (leb v high) t in
+    let p = and-eq-true-iff (leb low v) (leb v high) .0 t in
     record { least = leb-true low v (p .0); most = leb-true v high (p .1) }
 
 from-signed : (low high v : ℤ) → withinSigned low high v ≡ true → FromSigned low high v
 from-signed low high v t =
-    let p = parts (leZ low v) (leZ v high) t in
+    let p = and-eq-true-iff (leZ low v) (leZ v high) .0 t in
     record { least = le-true (p .0); most = le-true (p .1) }
 
 -- The named ranges of every good record.

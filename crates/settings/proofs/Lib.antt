@@ -2,3 +2,4 @@
 pub mod TwosComplement
 pub mod Cases
 pub mod Good
+pub mod Examples

@@ -1,9 +1,9 @@
 -- Document 01, "Settings record": the fields by name, and the range of each in every good record.
 use Prim.Native.Nat.{ℕ, _+_, _*_, _≤_}
 use mathlib.Core.List.{List}
-use lib.IntN.{ℤ, pos, negsuc}
+use lib.IntN.{ℤ, pos}
 use lib.Signed.{_≤ℤ_, _<ℤ_}
-use Rattle.settings.specs.Record.{fieldAt, signedAt}
+use Rattle.settings.specs.Record.{minus, fieldAt, signedAt}
 
 -- N, the ends of the line.
 abbrev pub ends : List ℕ → ℕ
@@ -71,11 +71,11 @@ pub record Ranges (s : List ℕ) : Type 0 where
   pub replicaImaginary-range : From 1 20000 (replicaImaginary s)
   pub reach-range : From 1 2000 (reach s)
   pub kReal-range : From 0 1000 (kReal s)
-  pub kImaginary-range : FromSigned (negsuc 499) (pos 500) (kImaginary s)
+  pub kImaginary-range : FromSigned (minus 500) (pos 500) (kImaginary s)
   pub angleReal-range : From 0 1000 (angleReal s)
   pub angleImaginary-range : From 0 1000 (angleImaginary s)
   pub angle-size : From 998000 1002000 (angleReal s * angleReal s + angleImaginary s * angleImaginary s)
-  pub forwardLimit-range : FromSigned (negsuc 19999) (pos 20000) (forwardLimit s)
-  pub reverseLimit-range : FromSigned (negsuc 19999) (pos 20000) (reverseLimit s)
+  pub forwardLimit-range : FromSigned (minus 20000) (pos 20000) (forwardLimit s)
+  pub reverseLimit-range : FromSigned (minus 20000) (pos 20000) (reverseLimit s)
   pub limits-order : forwardLimit s <ℤ reverseLimit s
   pub negativePickup-range : From 1 42000 (negativePickup s)

@@ -1,26 +1,38 @@
--- Document 01, "Settings record": the table as data, in the order of the checks.
+-- Document 01, "Settings record": the table as data, in the order of the checks. A sum-of-squares fault is at 18 and zf not below zr at
+-- 22, each found when that offset's own range has passed; each spare byte is at its own offset.
 use mathlib.Core.List.{List, [], _∷_}
-use lib.IntN.{pos, negsuc}
+use lib.IntN.{pos}
 use Rattle.settings.specs.declared.Rule.{Rule}
 use Rattle.settings.specs.declared.Rule.the-variants.{Unsigned, Signed, Squares, Below, Spare}
+use Rattle.settings.specs.Record.{minus}
 
 unfoldable pub table : List Rule
 table =
+    -- ends N
     Unsigned 0 2 6
+    -- slope K, percent
     ∷ Unsigned 2 1 100
+    -- differential pickup, counts
     ∷ Unsigned 4 1 42000
+    -- replica impedance real, imaginary, thousandths
     ∷ Unsigned 6 0 20000
     ∷ Unsigned 8 1 20000
+    -- reach r, thousandths of the replica
     ∷ Unsigned 10 1 2000
+    -- k real, imaginary, thousandths
     ∷ Unsigned 12 0 1000
-    ∷ Signed 14 (negsuc 499) (pos 500)
+    ∷ Signed 14 (minus 500) (pos 500)
+    -- line angle D real, imaginary, and their sum of squares
     ∷ Unsigned 16 0 1000
     ∷ Unsigned 18 0 1000
     ∷ Squares 16 18 998000 1002000
-    ∷ Signed 20 (negsuc 19999) (pos 20000)
-    ∷ Signed 22 (negsuc 19999) (pos 20000)
+    -- forward limit zf, reverse limit zr, and zf < zr
+    ∷ Signed 20 (minus 20000) (pos 20000)
+    ∷ Signed 22 (minus 20000) (pos 20000)
     ∷ Below 20 22
+    -- pickup of 3I2, counts
     ∷ Unsigned 24 1 42000
+    -- zero bytes
     ∷ Spare 26
     ∷ Spare 27
     ∷ Spare 28

@@ -27,10 +27,10 @@ pub enum Checked {
 }
 
 // How many rules the table has.
-pub const RULES: usize = 21;
+const RULES: usize = 21;
 
-// The table, in the order of the checks.
-fn rules() -> [Rule; 21]
+// The table, in the order of the checks; specs/Table.antt names each row's field.
+fn rules() -> [Rule; RULES]
     ensures { λ r. ⌜ r ≡ table ⌝ }
 {
     [
@@ -58,6 +58,7 @@ fn rules() -> [Rule; 21]
     ]
 }
 
+// A byte as a number.
 fn wide(x: u8) -> u64
     ensures { λ r. ⌜ (r ≡ x) × (r < 256) ⌝ }
 {
@@ -86,22 +87,28 @@ pub fn signed_field(s: &[u8], at: u8) -> i64
     ensures { λ r. ⌜ r ≡ signedAt (now (s .entry)) at ⌝ }
 {
     let u = field(s, at);
-    if u < 32768 { u as i64 } else { -1 - ((65535 - u) as i64) }
+    if u < 32768 {
+        u as i64
+    } else {
+        (u as i64) - 65536
+    }
 }
 
+// From a least to a greatest number.
 fn between(v: u64, low: u64, high: u64) -> bool
     ensures { λ r. ⌜ r ≡ within low high v ⌝ }
 {
     if low <= v { v <= high } else { false }
 }
 
+// The same of signed numbers.
 fn between_signed(v: i64, low: i64, high: i64) -> bool
     ensures { λ r. ⌜ r ≡ withinSigned low high v ⌝ }
 {
     if low <= v { v <= high } else { false }
 }
 
-// The square of a 16-bit number, and what two of them come to.
+// What the squares of two 16-bit numbers come to.
 fn squares(x: u64, y: u64) -> u64
     requires { ⌜ (x < 65536) × (y < 65536) ⌝ }
     ensures { λ r. ⌜ r ≡ x * x + y * y ⌝ }
@@ -135,12 +142,12 @@ fn place(rule: Rule) -> u8
     }
 }
 
-// The first fault of a record of 32 bytes.
+// The first fault of a record. Of a shorter slice the missing bytes read as 0; who lends an entry sees to its length.
 pub fn check(s: &[u8]) -> Checked
     ensures { λ r. ⌜ r ≡ checked (now (s .entry)) ⌝ }
 {
     let table = rules();
-    for i in 0..21 {
+    for i in 0..RULES {
         let rule = table[i];
         if !kept(s, rule) {
             return Checked::Bad(place(rule));

@@ -1,5 +1,6 @@
+-- `lent::compare` meets its contract. The invariant: what is left of the two slices decides the finding. Assumes nothing.
 use Prim.Native.Nat.{_≤_, _-_}
-use mathlib.Core.Path.{_≡_, refl, sym, _∙_, ap}
+use mathlib.Core.Path.{_≡_, refl, sym, _∙_}
 use native.Mathlib.Omega.{arith}
 use borrow.Author.Needs.{needs}
 use denote.Ref.{now}
@@ -8,8 +9,6 @@ use Rattle.lent.specs.Lent.{differFrom, compared}
 use Rattle.lent.proofs.Turns.{same-turn, differ-turn, same-end}
 use Rattle.lent.proofs.compare.Statement.{statement}
 use Rattle.lent.proofs.compare.Tie as tie
-use Rattle.lent.proofs.compare.Reads as reads
-use Rattle.lent.proofs.compare.Lts as lts
 
 abbrev Inv-loop : tie.InvT-loop
 Inv-loop a b i₀ i = (i ≤ length a) × (differFrom i (drop i a) (drop i b) ≡ compared a b)
@@ -17,42 +16,34 @@ Inv-loop a b i₀ i = (i ≤ length a) × (differFrom i (drop i a) (drop i b) �
 abbrev μ-loop : tie.MeasureT-loop
 μ-loop a b i₀ i = length a - i
 
--- src/lib.rt:31:5
 loop-holds : tie.Need-loop-holds Inv-loop μ-loop
 unfolding compared
 loop-holds c = (search needs, refl)
 
--- src/lib.rt:32:12
 shared-slice-read-if1 : tie.Need-shared-slice-read-if1 Inv-loop μ-loop
 shared-slice-read-if1 c = search needs
 
--- src/lib.rt:32:20
 shared-slice-read-if1-2 : tie.Need-shared-slice-read-if1-2 Inv-loop μ-loop
 shared-slice-read-if1-2 c = search needs
 
--- src/lib.rt:33:13
 returns : tie.Need-returns Inv-loop μ-loop
 returns c =
     let l = c .before .before .before .before .loop in
     let a = c .before .before .before .before .before .args in
     sym (differ-turn (now (a .a)) (now (a .b)) (l .i) (omega arith) (omega arith) (c .if1 .taken)) ∙ l .inv .1
 
--- src/lib.rt:35:9
 add-i : tie.Need-add-i Inv-loop μ-loop
 add-i c = search needs
 
--- src/lib.rt:31:5
 loop-less : tie.Need-loop-less Inv-loop μ-loop
 loop-less c = search needs
 
--- src/lib.rt:31:5
 loop-again : tie.Need-loop-again Inv-loop μ-loop
 loop-again c =
     let l = c .before .before .before .before .loop in
     let a = c .before .before .before .before .before .args in
     (search needs, sym (same-turn (now (a .a)) (now (a .b)) (l .i) (omega arith) (omega arith) (c .if1 .left)) ∙ l .inv .1)
 
--- src/lib.rt:26:1
 returns-2 : tie.Need-returns-2 Inv-loop μ-loop
 returns-2 c =
     let a = c .before .before .args in

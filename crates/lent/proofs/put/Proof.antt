@@ -1,5 +1,6 @@
+-- `lent::put` meets its contract. The invariant: the bytes of src passed so far are pasted over dst. Assumes nothing.
 use Prim.Native.Nat.{_≤_, _-_}
-use mathlib.Core.Path.{_≡_, refl, sym, _∙_, ap}
+use mathlib.Core.Path.{_≡_, refl, _∙_}
 use native.Mathlib.Omega.{arith}
 use borrow.Author.Needs.{needs}
 use denote.Ref.{now}
@@ -8,8 +9,6 @@ use lib.Seq.{paste, paste-zero}
 use Rattle.lent.proofs.Turns.{put-turn, put-end}
 use Rattle.lent.proofs.put.Statement.{statement}
 use Rattle.lent.proofs.put.Tie as tie
-use Rattle.lent.proofs.put.Reads as reads
-use Rattle.lent.proofs.put.Lts as lts
 
 abbrev Inv-loop : tie.InvT-loop
 Inv-loop dst₀ at src j₀ dst j = (j ≤ length src) × (dst ≡ paste dst₀ at src j) × (length dst ≡ length dst₀)
@@ -17,31 +16,24 @@ Inv-loop dst₀ at src j₀ dst j = (j ≤ length src) × (dst ≡ paste dst₀ 
 abbrev μ-loop : tie.MeasureT-loop
 μ-loop dst₀ at src j₀ dst j = length src - j
 
--- src/lib.rt:19:5
 loop-holds : tie.Need-loop-holds Inv-loop μ-loop
 loop-holds c = (search needs, paste-zero (now (c .args .dst)) (c .args .at) (now (c .args .src)), refl)
 
--- src/lib.rt:20:23
 shared-slice-read-dst : tie.Need-shared-slice-read-dst Inv-loop μ-loop
 shared-slice-read-dst c = search needs
 
--- src/lib.rt:20:13
 add-dst : tie.Need-add-dst Inv-loop μ-loop
 add-dst c = search needs
 
--- src/lib.rt:20:9
 slice-write-dst : tie.Need-slice-write-dst Inv-loop μ-loop
 slice-write-dst c = search needs
 
--- src/lib.rt:21:9
 add-j : tie.Need-add-j Inv-loop μ-loop
 add-j c = search needs
 
--- src/lib.rt:19:5
 loop-less : tie.Need-loop-less Inv-loop μ-loop
 loop-less c = search needs
 
--- src/lib.rt:19:5
 loop-again : tie.Need-loop-again Inv-loop μ-loop
 loop-again c =
     let l = c .before .before .loop in
@@ -51,11 +43,9 @@ loop-again c =
       length-set (l .dst) _ _ ∙ l .inv .2,
     )
 
--- src/lib.rt:14:1
 same-length : tie.Need-same-length Inv-loop μ-loop
 same-length c = search needs
 
--- src/lib.rt:14:1
 returns : tie.Need-returns Inv-loop μ-loop
 returns c =
     let a = c .before .before .args in

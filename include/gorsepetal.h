@@ -1,0 +1,172 @@
+/*
+** gorsepetal.h: the protection core of a line relay, for C. This file is the manual.
+**
+** WHAT THE LIBRARY IS
+**
+** libgorsepetal.a turns what the commissioning desk enters, and later what the line measures, into what the relay does. This
+** version offers settings entry and read-back: a settings record comes into force only when the same 32 bytes are proposed and
+** then confirmed. The measuring calls come next; see LIMITS.
+**
+** The library keeps nothing between calls, allocates nothing, and calls nothing: the archive has no undefined symbols. All that a
+** call reads or writes is lent to it for that call. So several threads may call at once, each on a relay's state and on buffers
+** of its own. The archive is for x86-64, System V calling convention. What is proved of it stands in docs/CLAIMS.md.
+**
+** LENT SLICES
+**
+** Each slice is a pointer and a length in bytes, which have to be true; no call can check them. Every length has a defined
+** answer, a wrong one too.
+**   - The pointer is never null, not even with length 0. With length 0 it may be any valid pointer that is not null; it is never
+**     read or written through.
+**   - The slice lies within one object. It may begin at any address: nothing needs to be aligned.
+**   - The two slices of a call do not overlap. During the call no other thread writes to either, nor reads one that is not const.
+**   - A const slice is never written, whatever the answer.
+**
+** THE RELAY'S STATE
+**
+** A relay is 64 bytes that the firmware owns, GORSEPETAL_STATE_LENGTH. All zero bytes are a fresh relay: nothing in force and
+** nothing pending. No call is needed to begin or to end with one.
+**
+**   bytes 0 to 31    the settings record in force
+**   bytes 32 to 63   the pending record: proposed and not yet confirmed
+**
+** A record there that propose would refuse counts as absent, wherever its bytes came from; all zero bytes are such a record. The
+** firmware may keep the 64 bytes in permanent memory and lend them again, and should not write to them otherwise. A byte damaged
+** there is noticed only if the record is then out of range: the record has no checksum.
+**
+** WHAT COMES BACK
+**
+** Each call gives back one number, 256 times the place plus the number of the table. GORSEPETAL_NUMBER and GORSEPETAL_PLACE take
+** them apart.
+**
+**   number  name             when                                     place                    given by
+**   0       DONE             done                                     0                        every call
+**   1       NO_SETTINGS      no settings in force                     0                        read_back
+**   3       NO_ROOM          room below 32 bytes                      0                        read_back
+**   5       ENTRY_LENGTH     the settings entry is not 32 bytes       0                        propose, confirm
+**   6       OUT_OF_RANGE     a field is out of range                  offset of the first      propose
+**   7       NOTHING_PENDING  nothing is pending                       0                        confirm
+**   8       DIFFERS          the confirmation differs                 first differing offset   confirm
+**   17      NO_RELAY         the state slice is not 64 bytes          0                        every call
+**
+** No number is given back in any other condition, and no other number by these calls. Where several conditions hold, the first
+** in the call's order of checks is given.
+**
+** SETTINGS RECORD
+**
+** 32 bytes, GORSEPETAL_RECORD_LENGTH, no header. All fields are 16 bits, upper byte first; signed ones are two's complement.
+**
+**   at   field                                           from     to
+**   0    ends of the line, N                             2        6
+**   2    slope K, percent                                1        100
+**   4    differential pickup, counts                     1        42000
+**   6    replica impedance, real part, thousandths       0        20000
+**   8    replica impedance, imaginary part, thousandths  1        20000
+**   10   reach r, thousandths of the replica             1        2000
+**   12   k, real part, thousandths                       0        1000
+**   14   k, imaginary part, thousandths, signed          -500     500
+**   16   line angle D, real part                         0        1000
+**   18   line angle D, imaginary part                    0        1000
+**   20   forward limit zf, signed                        -20000   20000
+**   22   reverse limit zr, signed                        -20000   20000
+**   24   pickup of 3I2, counts                           1        42000
+**   26   six spare bytes                                 0        0
+**
+** The squares of the two parts of D sum to 998000 at least and 1002000 at most; a fault is reported at 18. zf is below zr; a
+** fault is reported at 22. The fields are checked in order of offset, and these two rules when the range at their offset has
+** passed. A spare byte that is not zero is reported at its own offset, 26 to 31.
+**
+** OUTSIDE THE LIBRARY
+**
+** Transformer differential, travelling waves, alignment of clocks, polarising memory and breaker-failure timing.
+**
+** LIMITS
+**
+** This version measures nothing and trips nothing. The measuring calls come next, and their limits will be:
+**   - a balanced three-phase fault has no negative sequence, so its direction is none and distance cannot trip on it;
+**   - where the polarising quantity Vp is zero, no loop asserts;
+**   - clipped samples are not detected.
+*/
+#ifndef GORSEPETAL_H
+#define GORSEPETAL_H
+
+#include <stddef.h>
+#include <stdint.h>
+
+#ifdef __cplusplus
+extern "C" {
+#endif
+
+/* Lengths in bytes: a relay's state, and a settings record. */
+#define GORSEPETAL_STATE_LENGTH 64
+#define GORSEPETAL_RECORD_LENGTH 32
+
+/* The numbers given back: the table above says when. */
+#define GORSEPETAL_DONE 0
+#define GORSEPETAL_NO_SETTINGS 1
+#define GORSEPETAL_NO_ROOM 3
+#define GORSEPETAL_ENTRY_LENGTH 5
+#define GORSEPETAL_OUT_OF_RANGE 6
+#define GORSEPETAL_NOTHING_PENDING 7
+#define GORSEPETAL_DIFFERS 8
+#define GORSEPETAL_NO_RELAY 17
+
+/* The two parts of what a call gave back. */
+#define GORSEPETAL_NUMBER(given_back) ((given_back) % 256)
+#define GORSEPETAL_PLACE(given_back) ((given_back) / 256)
+
+/*
+** Propose a settings record: the first of the two entries.
+**
+**   state   the relay, 64 bytes; changed as said below
+**   entry   the record, 32 bytes
+**
+** Checked in this order:
+**   17              state_len is not 64; nothing is changed
+**   5  at 0         entry_len is not 32
+**   6  at offset    the first field of the entry that is out of range
+**
+** Done (0): the entry is pending, in place of any earlier pending record.
+** Refused with 5 or 6: nothing is pending any more; bytes 32 to 63 of the state are zero, whatever they held.
+** Either way bytes 0 to 31, the record in force, stay as they were.
+*/
+uint64_t gorsepetal_propose(uint8_t *state, size_t state_len, const uint8_t *entry, size_t entry_len);
+
+/*
+** Confirm the pending record by entering it again: the second of the two entries.
+**
+**   state   the relay, 64 bytes; changed as said below
+**   entry   the same 32 bytes as were proposed
+**
+** Checked in this order:
+**   17              state_len is not 64; nothing is changed
+**   5  at 0         entry_len is not 32
+**   7  at 0         nothing is pending, or what is stored as pending is a record that propose would refuse
+**   8  at offset    the entry differs from the pending record, first at this offset
+**
+** Done (0): bytes 0 to 31 of the state are the entry, now in force, and bytes 32 to 63 are zero.
+** Refused with 5, 7 or 8: nothing is pending any more; bytes 32 to 63 are zero, whatever they held, and bytes 0 to 31 stay as they
+** were. So after a mismatch both entries have to be made again: a third entry cannot confirm.
+*/
+uint64_t gorsepetal_confirm(uint8_t *state, size_t state_len, const uint8_t *entry, size_t entry_len);
+
+/*
+** Read back the settings in force.
+**
+**   state   the relay, 64 bytes; never changed
+**   out     room for the record, 32 bytes or more
+**
+** Checked in this order:
+**   17              state_len is not 64
+**   1  at 0         no settings are in force, or what is stored there is a record that propose would refuse
+**   3  at 0         out_len is below 32
+**
+** Done (0): the first 32 bytes of out are the record in force; later ones stay as they were.
+** Refused: nothing is written to out.
+*/
+uint64_t gorsepetal_read_back(const uint8_t *state, size_t state_len, uint8_t *out, size_t out_len);
+
+#ifdef __cplusplus
+}
+#endif
+
+#endif

@@ -1,0 +1,6 @@
+/* What the kit's clang does not bring along: the part of <stdint.h> that is used here. */
+#ifndef TESTS_STDINT_H
+#define TESTS_STDINT_H
+typedef __UINT8_TYPE__ uint8_t;
+typedef __UINT64_TYPE__ uint64_t;
+#endif

@@ -1,0 +1,55 @@
+/*
+** Makes the calls that standard input describes and writes what each left to standard output; it judges nothing.
+**
+** Input: a letter, the length of a guard (1 byte) and of a slice (2 bytes, upper first), then guard, slice, guard. The letter s
+** lends a new relay; p, c and r propose, confirm and read back with the relay as the last call left it.
+** Output for p, c and r: what came back (8 bytes, upper first), then the relay and the other slice, each with its guards.
+*/
+#include <stdio.h>
+
+#include "gorsepetal.h"
+
+enum { HEAD = 4, MOST = 2 * 255 + 65535 };
+
+struct lent {
+  uint8_t all[MOST];
+  size_t guard, length;
+};
+static struct lent state, other;
+
+static size_t whole(const struct lent *slice) { return slice->guard + slice->length + slice->guard; }
+
+static int take(struct lent *slice, const uint8_t head[HEAD]) {
+  slice->guard = head[1];
+  slice->length = 256 * (size_t)head[2] + head[3];
+  return fread(slice->all, 1, whole(slice), stdin) == whole(slice);
+}
+
+static uint64_t call(uint8_t letter) {
+  uint8_t *relay = state.all + state.guard, *bytes = other.all + other.guard;
+  switch (letter) {
+  case 'p': return gorsepetal_propose(relay, state.length, bytes, other.length);
+  case 'c': return gorsepetal_confirm(relay, state.length, bytes, other.length);
+  default: return gorsepetal_read_back(relay, state.length, bytes, other.length);
+  }
+}
+
+/* Nothing is kept back, so that after a crash the last answer written is that of the call before. */
+static int tell(uint64_t answer) {
+  uint8_t bytes[8];
+  for (int i = 0; i < 8; i++) bytes[i] = (uint8_t)(answer >> (56 - 8 * i));
+  fwrite(bytes, 1, sizeof bytes, stdout);
+  fwrite(state.all, 1, whole(&state), stdout);
+  fwrite(other.all, 1, whole(&other), stdout);
+  return fflush(stdout) == 0;
+}
+
+int main(void) {
+  uint8_t head[HEAD];
+  while (fread(head, 1, HEAD, stdin) == HEAD) {
+    if (head[0] != 's' && head[0] != 'p' && head[0] != 'c' && head[0] != 'r') return 1;
+    if (!take(head[0] == 's' ? &state : &other, head)) return 1;
+    if (head[0] != 's' && !tell(call(head[0]))) return 1;
+  }
+  return 0;
+}
