@@ -26,7 +26,8 @@ archive=${GORSEPETAL_ARCHIVE:-$built}
 mkdir -p build
 
 archive() {
-  rt staticlib gorsepetal >&2
+  echo "proving the library and writing $built: about a minute from nothing" >&2
+  rt staticlib gorsepetal >build/archive.log 2>&1 || { cat build/archive.log >&2; fail "the library was not proved"; }
   cp target/staticlib/libgorsepetal.a "$built"
 }
 

@@ -1,7 +1,7 @@
 -- Demand 1: a history of calls is a log of entries that leads to the relay's pair of records, so the two-entry rule's own theorem applies.
 use mathlib.Core.Path.{_≡_, refl, sym, subst, subst₂, _∙_}
 use Prim.Native.Nat.{ℕ}
-use mathlib.Core.List.{List}
+use mathlib.Core.List.{List, [], _∷_}
 use native.Mathlib.Omega.{arith}
 use lib.ListN.{length}
 use Rattle.answers.specs.declared.Answer.{Answer}
@@ -13,7 +13,7 @@ use Rattle.entry.specs.Pair.{Pair, nothing}
 use Rattle.entry.specs.Log.{Entry, propose, confirm, Log, _▷_, Leads, from-fresh, by-propose, by-confirm}
 use Rattle.entry.proofs.History.{in-force-said-twice}
 use Rattle.gorsepetal.specs.State.{settingsOf}
-use Rattle.claims.specs.Demand1.{History, fresh, proposed, confirmed, other, Demand1}
+use Rattle.claims.specs.Demand1.{History, fresh, proposed, confirmed, other, Demand1, Call, proposing, confirming, reading-back, Reached, next, afterCalls, freshRelay, EveryList}
 use Rattle.claims.proofs.Relay.{Left, propose-left, confirm-left}
 
 -- 32 zero bytes are no good record: the table refuses them at 0
@@ -44,3 +44,17 @@ led (other {l} h r k) = record { relay = r; leads = subst (Leads checked l) (sym
 
 pub demand-1 : Demand1
 demand-1 l s h g = in-force-said-twice checked not-good (led h .leads) g
+
+-- ---- every list of calls is a history
+
+history-next : (r : Reached) (c : Call) → History (r .log) (r .state) → History (next r c .log) (next r c .state)
+history-next r (proposing e) h = proposed h (record { given = refl; state = refl })
+history-next r (confirming e) h = confirmed h (record { given = refl; state = refl })
+history-next r (reading-back out) h = h
+
+history-after : (r : Reached) (cs : List Call) → History (r .log) (r .state) → History (afterCalls r cs .log) (afterCalls r cs .state)
+history-after r [] h = h
+history-after r (c ∷ cs) h = history-after (next r c) cs (history-next r c h)
+
+pub every-list : EveryList
+every-list cs = history-after freshRelay cs fresh
