@@ -1,10 +1,12 @@
--- `Done` is the one answer that is done, and the one whose number and place are 0.
+-- `Done` is the one answer whose number is 0; every number is below 256, so that the number and the place can be told apart.
+use Prim.Native.Nat.{_<_}
 use mathlib.Core.Path.{_≡_, refl, sym, _∙_}
 use mathlib.Core.Bool.{Bool, true, false, false≢true}
 use native.Mathlib.Omega.{arith}
+use borrow.Author.Tests.{eq-eqb}
 use Rattle.answers.specs.declared.Answer.{Answer}
 use Rattle.answers.specs.declared.Answer.the-variants.{Done, NoSettings, NoRoom, EntryLength, OutOfRange, NothingPending, Differs, NoRelay}
-use Rattle.answers.specs.Answers.{givenBack, isDone}
+use Rattle.answers.specs.Answers.{number, givenBack, isDone}
 
 pub done-is : (a : Answer) → isDone a ≡ true → a ≡ Done
 done-is Done t = refl
@@ -17,14 +19,7 @@ done-is (Differs k) t = absurd (false≢true t)
 done-is NoRelay t = absurd (false≢true t)
 
 pub zero-is : (a : Answer) → givenBack a ≡ 0 → a ≡ Done
-zero-is Done z = refl
-zero-is NoSettings z = let x : ⊥ = omega arith in absurd x
-zero-is NoRoom z = let x : ⊥ = omega arith in absurd x
-zero-is EntryLength z = let x : ⊥ = omega arith in absurd x
-zero-is (OutOfRange k) z = let x : ⊥ = omega arith in absurd x
-zero-is NothingPending z = let x : ⊥ = omega arith in absurd x
-zero-is (Differs k) z = let x : ⊥ = omega arith in absurd x
-zero-is NoRelay z = let x : ⊥ = omega arith in absurd x
+zero-is a z = done-is a (eq-eqb (number a) 0 (omega arith))
 
 -- So a call is answered 0 exactly where it is done.
 pub done-zero : (a : Answer) → isDone a ≡ true → givenBack a ≡ 0
@@ -39,3 +34,13 @@ not-zero-refused a f = by-test (isDone a) refl
     by-test : (b : Bool) → isDone a ≡ b → b ≡ false
     by-test true t = absurd (f (done-zero a t))
     by-test false t = refl
+
+pub number-small : (a : Answer) → number a < 256
+number-small Done = omega arith
+number-small NoSettings = omega arith
+number-small NoRoom = omega arith
+number-small EntryLength = omega arith
+number-small (OutOfRange k) = omega arith
+number-small NothingPending = omega arith
+number-small (Differs k) = omega arith
+number-small NoRelay = omega arith

@@ -1,6 +1,7 @@
 -- Document 01, "Numbers given back": each answer's number and place.
 use Prim.Native.Nat.{ℕ, _+_, _*_}
-use mathlib.Core.Bool.{Bool, true, false}
+use mathlib.Core.Bool.{Bool, cond}
+use lib.Dec.{eqb}
 use Rattle.answers.specs.declared.Answer.{Answer}
 use Rattle.answers.specs.declared.Answer.the-variants.{Done, NoSettings, NoRoom, EntryLength, OutOfRange, NothingPending, Differs, NoRelay}
 
@@ -31,11 +32,8 @@ givenBack a = 256 * place a + number a
 
 -- Done, or refused.
 abbrev pub isDone : Answer → Bool
-isDone Done = true
-isDone NoSettings = false
-isDone NoRoom = false
-isDone EntryLength = false
-isDone (OutOfRange at) = false
-isDone NothingPending = false
-isDone (Differs at) = false
-isDone NoRelay = false
+isDone a = eqb (number a) 0
+
+-- What stands where a call is done, and where it is refused.
+abbrev pub ifDone : {A : Type 0} → Answer → A → A → A
+ifDone a done refused = cond (isDone a) done refused

@@ -1,9 +1,9 @@
 // The numbers given back (document 01, "Numbers given back"): each answer by name, and the one number that C gets.
 ghost use mathlib.Core.Path.{_≡_};
 ghost use Prim.Native.Nat.{_<_};
-ghost use Rattle.answers.specs.Answers.{number, place, givenBack};
+ghost use Rattle.answers.specs.Answers.{number, place, givenBack, isDone};
 
-// Each answer with its number. A place is an offset in a record, below 256.
+// Each answer of the table. A place is an offset in a record.
 pub enum Answer {
     Done,
     NoSettings,
@@ -61,6 +61,13 @@ fn place(a: Answer) -> u8
         Answer::Differs(at) => at,
         Answer::NoRelay => 0,
     }
+}
+
+// Done, or refused.
+pub fn is_done(a: Answer) -> bool
+    ensures { λ r. ⌜ r ≡ isDone a ⌝ }
+{
+    number(a) == DONE
 }
 
 // What C gets: 256 times the place, plus the number.

@@ -1,38 +1,40 @@
--- Demand 1: a history of calls is a log of entries that leads to the relay's pair of records, so the two-entry rule's own theorem applies.
-use mathlib.Core.Path.{_≡_, refl, sym, subst, subst₂, _∙_}
+-- Demand 1: a history of calls is a log of entries that leads to the relay's pair of records, so the two-entry rule's own theorem applies;
+-- and every list of calls is a history.
 use Prim.Native.Nat.{ℕ}
+use mathlib.Core.Path.{_≡_, refl, sym, ap, subst, subst₂, _∙_}
 use mathlib.Core.List.{List, [], _∷_}
-use native.Mathlib.Omega.{arith}
+use mathlib.Core.Bool.{false≢true}
 use lib.ListN.{length}
 use Rattle.answers.specs.declared.Answer.{Answer}
-use Rattle.answers.specs.Answers.{givenBack}
-use Rattle.settings.specs.declared.Checked.the-variants.{Good, Bad}
+use Rattle.answers.specs.declared.Answer.the-variants.{OutOfRange}
+use Rattle.answers.specs.Answers.{givenBack, isDone}
 use Rattle.settings.specs.Table.{table}
-use Rattle.settings.specs.Check.{checked, checkedBy}
+use Rattle.settings.specs.Check.{checkedBy}
 use Rattle.entry.specs.Pair.{Pair, nothing}
 use Rattle.entry.specs.Log.{Entry, propose, confirm, Log, _▷_, Leads, from-fresh, by-propose, by-confirm}
 use Rattle.entry.proofs.History.{in-force-said-twice}
-use Rattle.gorsepetal.specs.State.{settingsOf}
-use Rattle.claims.specs.Demand1.{History, fresh, proposed, confirmed, other, Demand1, Call, proposing, confirming, reading-back, Reached, next, afterCalls, freshRelay, EveryList}
+use Rattle.gorsepetal.specs.State.{stateLength, settingsOf}
+use Rattle.gorsepetal.specs.Calls.{verdict, Accepted}
+use Rattle.claims.specs.Demand1.{Call, proposing, confirming, reading-back, Reached, freshRelay, next, afterCalls, Demand1, History, fresh, proposed, confirmed, other, OverHistories}
 use Rattle.claims.proofs.Relay.{Left, propose-left, confirm-left}
 
--- 32 zero bytes are no good record: the table refuses them at 0
-pub blank : checked nothing ≡ Bad 0
+-- zero bytes are no good record: the table refuses them at 0
+pub blank : verdict nothing ≡ OutOfRange 0
 unfolding checkedBy table
 blank = refl
 
-not-good : checked nothing ≡ Good → ⊥
-not-good g = let b : Bad 0 ≡ Good = sym blank ∙ g in let z : _≡_ {A = ℕ} 0 1 = cc in omega arith
+not-accepted : Accepted nothing → ⊥
+not-accepted g = false≢true (ap isDone (sym blank ∙ g))
 
 -- where a history leads
 record Led (l : Log) (s : List ℕ) : Type 0 where
-  relay : length s ≡ 64
-  leads : Leads checked l (settingsOf s)
+  relay : length s ≡ stateLength
+  leads : Leads verdict l (settingsOf s)
 
 -- one entry more, of either kind: x makes it of the number given back
-one-more : {l : Log} (x : ℕ → Entry) (a : Answer) (p : Pair) (n : ℕ) (after : List ℕ) → Left a p n after → Leads checked (l ▷ x (givenBack a)) p → Led (l ▷ x n) after
+one-more : {l : Log} (x : ℕ → Entry) (a : Answer) (p : Pair) (n : ℕ) (after : List ℕ) → Left a p n after → Leads verdict (l ▷ x (givenBack a)) p → Led (l ▷ x n) after
 one-more {l} x a p n after k d =
-    record { relay = k .relay; leads = subst₂ (λ (m : ℕ) (q : Pair). Leads checked (l ▷ x m) q) (sym (k .given)) (sym (k .pair)) d }
+    record { relay = k .relay; leads = subst₂ (λ (m : ℕ) (q : Pair). Leads verdict (l ▷ x m) q) (sym (k .given)) (sym (k .pair)) d }
 
 led : {l : Log} {s : List ℕ} → History l s → Led l s
 led fresh = record { relay = refl; leads = from-fresh }
@@ -40,13 +42,12 @@ led (proposed {s = s} {e} {after} {n} h c) =
     one-more (propose e) _ _ n after (propose-left s (led h .relay) e n after c) (by-propose (led h .leads) e)
 led (confirmed {s = s} {e} {after} {n} h c) =
     one-more (confirm e) _ _ n after (confirm-left s (led h .relay) e n after c) (by-confirm (led h .leads) e)
-led (other {l} h r k) = record { relay = r; leads = subst (Leads checked l) (sym k) (led h .leads) }
+led (other {l} h r k) = record { relay = r; leads = subst (Leads verdict l) (sym k) (led h .leads) }
 
-pub demand-1 : Demand1
-demand-1 l s h g = in-force-said-twice checked not-good (led h .leads) g
+pub over-histories : OverHistories
+over-histories l s h g = in-force-said-twice verdict not-accepted (led h .leads) g
 
--- ---- every list of calls is a history
-
+-- every list of calls is a history
 history-next : (r : Reached) (c : Call) → History (r .log) (r .state) → History (next r c .log) (next r c .state)
 history-next r (proposing e) h = proposed h (record { given = refl; state = refl })
 history-next r (confirming e) h = confirmed h (record { given = refl; state = refl })
@@ -56,5 +57,6 @@ history-after : (r : Reached) (cs : List Call) → History (r .log) (r .state) �
 history-after r [] h = h
 history-after r (c ∷ cs) h = history-after (next r c) cs (history-next r c h)
 
-pub every-list : EveryList
-every-list cs = history-after freshRelay cs fresh
+pub demand-1 : Demand1
+demand-1 cs g =
+    let r = afterCalls freshRelay cs in over-histories (r .log) (r .state) (history-after freshRelay cs fresh) g

@@ -1,4 +1,4 @@
--- What a call does to a relay of 64 bytes, in terms of its pair of records alone.
+-- What a call does to a relay, in terms of its pair of records alone.
 use Prim.Native.Nat.{ℕ}
 use mathlib.Core.Path.{_≡_, ap, _∙_}
 use mathlib.Core.List.{List}
@@ -8,21 +8,20 @@ use lib.ListN.{length, drop, length-drop}
 use lib.Seq.{length-take-le}
 use Rattle.answers.specs.declared.Answer.{Answer}
 use Rattle.answers.specs.Answers.{givenBack}
-use Rattle.settings.specs.Check.{checked}
 use Rattle.entry.specs.Pair.{Pair}
 use Rattle.entry.specs.Entry.{proposeAnswer, proposed, confirmAnswer, confirmed}
 use Rattle.entry.proofs.Pairs.{pair-again, with-pair-length}
 use Rattle.entry.proofs.Done.{Sized, proposed-sized, confirmed-sized}
-use Rattle.gorsepetal.specs.State.{settingsOf, withSettings}
-use Rattle.gorsepetal.specs.Calls.{Proposed, Confirmed}
+use Rattle.gorsepetal.specs.State.{stateLength, settingsOf, withSettings}
+use Rattle.gorsepetal.specs.Calls.{verdict, standing, Proposed, Confirmed}
 
 -- The answer a by which n was given back, and the pair p that is left.
 pub record Left (a : Answer) (p : Pair) (n : ℕ) (after : List ℕ) : Type 0 where
   pub given : n ≡ givenBack a
   pub pair : settingsOf after ≡ p
-  pub relay : length after ≡ 64
+  pub relay : length after ≡ stateLength
 
-module _ (s : List ℕ) (l : length s ≡ 64) where
+module _ (s : List ℕ) (l : length s ≡ stateLength) where
   pub sized : Sized (settingsOf s)
   sized =
       record {
@@ -39,15 +38,12 @@ module _ (s : List ℕ) (l : length s ≡ 64) where
       }
 
   module _ (e : List ℕ) (n : ℕ) (after : List ℕ) where
-    pub propose-left : Proposed s e n after → Left (proposeAnswer (checked e) e) (proposed (checked e) (settingsOf s) e) n after
+    pub propose-left : Proposed s e n after → Left (proposeAnswer (verdict e) e) (proposed (verdict e) (settingsOf s) e) n after
     propose-left c =
-        let t = eq-eqb (length s) 64 l in
-        left (proposeAnswer (checked e) e) (proposed (checked e) (settingsOf s) e) n after (proposed-sized (checked e) (settingsOf s) e sized)
-        (c .given ∙ rw t) (c .state ∙ rw t)
+        let t = eq-eqb (length s) stateLength l in
+        left _ _ n after (proposed-sized (verdict e) (settingsOf s) e sized) (c .given ∙ rw t) (c .state ∙ rw t)
 
-    pub confirm-left : Confirmed s e n after → Left (confirmAnswer (checked (settingsOf s .pending)) (settingsOf s) e) (confirmed (checked (settingsOf s .pending)) (settingsOf s) e) n after
+    pub confirm-left : Confirmed s e n after → Left (confirmAnswer (standing s) (settingsOf s) e) (confirmed (standing s) (settingsOf s) e) n after
     confirm-left c =
-        let t = eq-eqb (length s) 64 l in
-        let f = checked (settingsOf s .pending) in
-        left (confirmAnswer f (settingsOf s) e) (confirmed f (settingsOf s) e) n after (confirmed-sized f (settingsOf s) e sized)
-        (c .given ∙ rw t) (c .state ∙ rw t)
+        let t = eq-eqb (length s) stateLength l in
+        left _ _ n after (confirmed-sized (standing s) (settingsOf s) e sized) (c .given ∙ rw t) (c .state ∙ rw t)

@@ -8,21 +8,18 @@ use borrow.Author.Tests.{eq-eqb, ne-eqb, le-leb, eqb-true}
 use lib.ListN.{length, take, drop}
 use lib.Seq.{take-at, drop-at}
 use lib.Dec.{eqb}
-use Rattle.answers.specs.declared.Answer.the-variants.{EntryLength, NoRelay}
-use Rattle.answers.specs.Answers.{givenBack}
+use Rattle.answers.specs.declared.Answer.the-variants.{Done, EntryLength, NothingPending, NoRelay}
+use Rattle.answers.specs.Answers.{givenBack, isDone, ifDone}
 use Rattle.answers.proofs.Numbers.{zero-is, not-zero-refused}
 use Rattle.lent.specs.declared.Compared.{Compared}
 use Rattle.lent.specs.declared.Compared.the-variants.{Same, Differ}
 use Rattle.lent.specs.Lent.{compared}
 use Rattle.lent.proofs.Differences.{compared-first, compared-same, compared-self}
-use Rattle.settings.specs.declared.Checked.{Checked}
-use Rattle.settings.specs.declared.Checked.the-variants.{Good, Bad}
-use Rattle.settings.specs.Check.{checked}
 use Rattle.entry.specs.Pair.{nothing}
-use Rattle.entry.specs.Entry.{ofPending, ofCompare, proposeAnswer, confirmAnswer}
-use Rattle.entry.proofs.Done.{confirm-done}
-use Rattle.gorsepetal.specs.State.{settingsOf}
-use Rattle.gorsepetal.specs.Calls.{Confirmed, readBackAnswer}
+use Rattle.entry.specs.Entry.{ofCompare, proposeAnswer, confirmAnswer}
+use Rattle.entry.proofs.Done.{confirm-done, present-done}
+use Rattle.gorsepetal.specs.State.{stateLength, settingsOf}
+use Rattle.gorsepetal.specs.Calls.{isRelay, verdict, Accepted, standing, Confirmed, readBackAnswer}
 use Rattle.claims.specs.Settings.{GoodComesIntoForce, ConfirmedReadsBack, RefusedProposal, RefusedConfirmation, NoThirdEntry, DiffersAtFirst, RefusedReadBack, NoRelayNoChange}
 use Rattle.claims.proofs.Relay.{sized, propose-left, confirm-left}
 use Rattle.claims.proofs.Demand1.{blank}
@@ -30,19 +27,19 @@ use Rattle.claims.proofs.Demand1.{blank}
 pub refused-proposal : RefusedProposal
 refused-proposal s e n s₁ l c refused =
     let k = propose-left s l e n s₁ c in
-    let r = not-zero-refused (proposeAnswer (checked e) e) (λ z. refused (k .given ∙ z)) in
+    let r = not-zero-refused (proposeAnswer (verdict e) e) (λ z. refused (k .given ∙ z)) in
     (ap (λ p. p .force) (k .pair), ap (λ p. p .pending) (k .pair) ∙ rw r)
 
 pub refused-confirmation : RefusedConfirmation
 refused-confirmation s e n s₁ l c refused =
     let k = confirm-left s l e n s₁ c in
-    let r = not-zero-refused (confirmAnswer (checked (settingsOf s .pending)) (settingsOf s) e) (λ z. refused (k .given ∙ z)) in
+    let r = not-zero-refused (confirmAnswer (standing s) (settingsOf s) e) (λ z. refused (k .given ∙ z)) in
     (ap (λ p. p .force) (k .pair) ∙ rw r, ap (λ p. p .pending) (k .pair))
 
 pub no-third-entry : NoThirdEntry
 no-third-entry s e e′ n n′ s₁ s₂ l l′ c c′ =
     let k = confirm-left s l e n s₁ c in
-    let none : settingsOf s₁ .pending ≡ nothing = ap (λ p. p .pending) (k .pair) in
+    let none : verdict (settingsOf s₁ .pending) ≡ verdict nothing = ap (λ p. verdict (p .pending)) (k .pair) in
     let k′ = confirm-left s₁ (k .relay) e′ n′ s₂ c′ in
     k′ .given ∙ rw (eq-eqb (length e′) 32 l′, none, blank)
 
@@ -58,47 +55,49 @@ good-comes-into-force s e n m s₁ s₂ l le good c c′ =
       ap (λ p. p .pending) (k′ .pair),
     )
 
--- an answer of 8 comes from the comparison alone, with its place
-answer-8 : (b r : Bool) (f : Checked) (d : Compared) (k : ℕ) → 256 * k + 8 ≡ givenBack (cond r (cond b (ofPending f (ofCompare d)) EntryLength) NoRelay) → d ≡ Differ k
-answer-8 true true Good Same k z = let x : ⊥ = omega arith in absurd x
-answer-8 true true Good (Differ i) k z = ap Differ (omega arith)
-answer-8 true true (Bad i) d k z = let x : ⊥ = omega arith in absurd x
-answer-8 false true f d k z = let x : ⊥ = omega arith in absurd x
-answer-8 b false f d k z = let x : ⊥ = omega arith in absurd x
+-- an answer of 8 comes from the comparison alone, with its place; y says whether a record is pending
+answer-8 :
+    (r b y : Bool) (d : Compared) (k : ℕ) →
+    256 * k + 8 ≡ givenBack (cond r (cond b (ifDone (cond y Done NothingPending) (ofCompare d) (cond y Done NothingPending)) EntryLength) NoRelay) → d ≡ Differ k
+answer-8 true true true Same k z = let x : ⊥ = omega arith in absurd x
+answer-8 true true true (Differ i) k z = ap Differ (omega arith)
+answer-8 true true false d k z = let x : ⊥ = omega arith in absurd x
+answer-8 true false y d k z = let x : ⊥ = omega arith in absurd x
+answer-8 false b y d k z = let x : ⊥ = omega arith in absurd x
 
 pub differs-at-first : DiffersAtFirst
 differs-at-first s e k s₁ c =
     let p = settingsOf s .pending in
-    let first = compared-first k p e (answer-8 (eqb (length e) 32) (eqb (length s) 64) (checked p) (compared p e) k (c .given)) in
+    let first = compared-first k p e (answer-8 (isRelay s) (eqb (length e) 32) (isDone (verdict p)) (compared p e) k (c .given)) in
     (first .before, first .there)
 
 pub no-relay-no-change : NoRelayNoChange
 no-relay-no-change s e n after f =
-    let t = ne-eqb (length s) 64 f in
+    let t = ne-eqb (length s) stateLength f in
     (λ c. (c .given ∙ rw t, c .state ∙ rw t), λ c. (c .given ∙ rw t, c .state ∙ rw t), λ c. (c .given ∙ rw t, c .buffer ∙ rw t))
 
 pub refused-read-back : RefusedReadBack
 refused-read-back s out n after c refused = c .buffer ∙ rw (not-zero-refused (readBackAnswer s out) (λ z. refused (c .given ∙ z)))
 
 -- a confirmation answered 0 was of a relay
-confirmed-relay : (s e s₁ : List ℕ) → Confirmed s e 0 s₁ → length s ≡ 64
-confirmed-relay s e s₁ c = by-test (eqb (length s) 64) refl (c .given)
+confirmed-relay : (s e s₁ : List ℕ) → Confirmed s e 0 s₁ → length s ≡ stateLength
+confirmed-relay s e s₁ c = by-test (isRelay s) refl (c .given)
   where
-    by-test : (b : Bool) → eqb (length s) 64 ≡ b → 0 ≡ givenBack (cond b (confirmAnswer (checked (settingsOf s .pending)) (settingsOf s) e) NoRelay) → length s ≡ 64
-    by-test true t z = eqb-true (length s) 64 t
+    by-test : (b : Bool) → isRelay s ≡ b → 0 ≡ givenBack (cond b (confirmAnswer (standing s) (settingsOf s) e) NoRelay) → length s ≡ stateLength
+    by-test true t z = eqb-true (length s) stateLength t
     by-test false t z = let x : ⊥ = omega arith in absurd x
 
 pub confirmed-reads-back : ConfirmedReadsBack
 confirmed-reads-back s e s₁ out n after c b room =
     let l = confirmed-relay s e s₁ c in
     let k = confirm-left s l e 0 s₁ c in
-    let f = checked (settingsOf s .pending) in
-    let is-done = zero-is (confirmAnswer f (settingsOf s) e) (sym (k .given)) in
-    let done = confirm-done f (settingsOf s) e (rw is-done) in
-    let same : settingsOf s .pending ≡ e = compared-same (settingsOf s .pending) e (sized s l .pending ∙ sym (done .0)) (done .2) in
-    let good : checked e ≡ Good = rw same at (done .1) in
+    let p = settingsOf s .pending in
+    let is-done = zero-is (confirmAnswer (standing s) (settingsOf s) e) (sym (k .given)) in
+    let done = confirm-done (standing s) (settingsOf s) e (rw is-done) in
+    let same : p ≡ e = compared-same p e (sized s l .pending ∙ sym (done .0)) (done .2) in
+    let good : Accepted e = rw same at (present-done (verdict p) NothingPending refl (done .1)) in
     let force : settingsOf s₁ .force ≡ e = ap (λ p. p .force) (k .pair) ∙ rw is-done in
-    let t = eq-eqb (length s₁) 64 (k .relay) in
+    let t = eq-eqb (length s₁) stateLength (k .relay) in
     let w = le-leb 32 (length out) room in
     let written : after ≡ e ++ drop (0 + length e) out = b .buffer ∙ rw (t, force, good, w) in
     let le : length e ≡ 32 = done .0 in (

@@ -19,6 +19,6 @@ OneConfirmed = OneResult Confirmed
 abbrev pub OneReadBack : Type 0
 OneReadBack = OneResult ReadBack
 
--- And the one number that C gets tells the answer's number and its place, where the place is an offset in a record.
+-- And the one number that C gets tells the answer's number and its place.
 abbrev pub NumberAndPlace : Type 0
 NumberAndPlace = (a : Answer) → (givenBack a % 256 ≡ number a) × (givenBack a / 256 ≡ place a)

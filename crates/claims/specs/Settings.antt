@@ -1,25 +1,24 @@
--- Document 01, "Settings record" and "Numbers given back": what the desk may rely on, call by call. A relay is a state of 64 bytes.
+-- Document 01, "Settings record" and "Numbers given back": what the desk may rely on, call by call. A relay is a state of `stateLength`
+-- bytes; a record is accepted where propose answers it with 0.
 use Prim.Native.Nat.{ℕ, _+_, _*_, _≤_}
 use mathlib.Core.Path.{_≡_}
 use mathlib.Core.List.{List}
 use lib.ListN.{length, take, drop, getD}
-use Rattle.settings.specs.declared.Checked.the-variants.{Good}
-use Rattle.settings.specs.Check.{checked}
-use Rattle.entry.specs.Pair.{nothing}
+use Rattle.entry.specs.Pair.{recordLength, nothing}
 use Rattle.gorsepetal.specs.State.{stateLength, settingsOf}
-use Rattle.gorsepetal.specs.Calls.{Proposed, Confirmed, ReadBack}
+use Rattle.gorsepetal.specs.Calls.{Accepted, Proposed, Confirmed, ReadBack}
 
 -- A good record, proposed and then confirmed with the same bytes, is answered 0 twice and is in force. (So no relay refuses all calls.)
 abbrev pub GoodComesIntoForce : Type 0
 GoodComesIntoForce =
-    (s e : List ℕ) (n m : ℕ) (s₁ s₂ : List ℕ) → length s ≡ stateLength → length e ≡ 32 → checked e ≡ Good → Proposed s e n s₁ → Confirmed s₁ e m s₂
+    (s e : List ℕ) (n m : ℕ) (s₁ s₂ : List ℕ) → length s ≡ stateLength → length e ≡ recordLength → Accepted e → Proposed s e n s₁ → Confirmed s₁ e m s₂
     → (n ≡ 0) × (m ≡ 0) × (settingsOf s₂ .force ≡ e) × (settingsOf s₂ .pending ≡ nothing)
 
 -- Demand 2's part here: a record whose confirmation was answered 0, read back, is the same 32 bytes, and later bytes stay.
 abbrev pub ConfirmedReadsBack : Type 0
 ConfirmedReadsBack =
-    (s e s₁ out : List ℕ) (n : ℕ) (after : List ℕ) → Confirmed s e 0 s₁ → ReadBack s₁ out n after → 32 ≤ length out
-    → (n ≡ 0) × (take 32 after ≡ e) × (drop 32 after ≡ drop 32 out)
+    (s e s₁ out : List ℕ) (n : ℕ) (after : List ℕ) → Confirmed s e 0 s₁ → ReadBack s₁ out n after → recordLength ≤ length out
+    → (n ≡ 0) × (take recordLength after ≡ e) × (drop recordLength after ≡ drop recordLength out)
 
 -- A refused entry drops the pending record, and never the one in force.
 abbrev pub RefusedProposal : Type 0
@@ -35,7 +34,7 @@ RefusedConfirmation =
 -- After a confirmation, refused or not, a further one of 32 bytes is answered 7: no third entry slips in after a mismatch.
 abbrev pub NoThirdEntry : Type 0
 NoThirdEntry =
-    (s e e′ : List ℕ) (n n′ : ℕ) (s₁ s₂ : List ℕ) → length s ≡ stateLength → length e′ ≡ 32 → Confirmed s e n s₁ → Confirmed s₁ e′ n′ s₂
+    (s e e′ : List ℕ) (n n′ : ℕ) (s₁ s₂ : List ℕ) → length s ≡ stateLength → length e′ ≡ recordLength → Confirmed s e n s₁ → Confirmed s₁ e′ n′ s₂
     → n′ ≡ 7
 
 -- Refusal 8 is at the first differing offset: the entry and the pending record agree before it, and not there.

@@ -2,16 +2,17 @@
 use Prim.Native.Nat.{ℕ, _+_, _-_, _<_, _≤_}
 use mathlib.Core.Path.{_≡_, sym, _∙_}
 use mathlib.Core.List.{List}
-use borrow.Author.Tests.{eq-eqb, ne-eqb}
+use mathlib.Core.Bool.{Bool, true, false, not}
+use borrow.Author.Tests.{eq-eqb, ne-eqb, not-true, not-false}
 use lib.ListN.{length, take, drop, length-take}
 use native.Mathlib.Omega.{arith}
-use Rattle.answers.specs.declared.Answer.the-variants.{Done, EntryLength, OutOfRange, NothingPending, Differs}
+use Rattle.answers.specs.declared.Answer.{Answer}
+use Rattle.answers.specs.declared.Answer.the-variants.{Done, EntryLength, Differs}
+use Rattle.answers.specs.Answers.{isDone}
 use Rattle.lent.specs.declared.Compared.{Compared}
 use Rattle.lent.specs.declared.Compared.the-variants.{Same, Differ}
 use Rattle.lent.specs.Lent.{over, compared}
 use Rattle.lent.proofs.Differences.{compared-below}
-use Rattle.settings.specs.declared.Checked.{Checked}
-use Rattle.settings.specs.declared.Checked.the-variants.{Good, Bad}
 use Rattle.entry.specs.Pair.{nothing}
 use Rattle.entry.specs.Entry.{Proposed, Confirmed}
 use Rattle.entry.proofs.Pairs.{pending-over, both-over}
@@ -30,31 +31,44 @@ differ-fits at s e {i = i} c t =
     let h : i < 32 = rw (sym (part-is at s e c) ∙ t) at (compared-below 32 p e (omega (arith, length-take 32 (drop (at + 32) s)))) in
     omega arith
 
-module _ {found : Checked} {at : ℕ} {s e after : List ℕ} (room : at + 64 ≤ length s) where
-  pub propose-5 : (length e ≡ 32 → ⊥) → after ≡ over s (at + 32) nothing → Proposed found at s e EntryLength after
+module _ {v : Answer} {at : ℕ} {s e after : List ℕ} (room : at + 64 ≤ length s) where
+  pub propose-5 : (length e ≡ 32 → ⊥) → after ≡ over s (at + 32) nothing → Proposed v at s e EntryLength after
   propose-5 l k = let t = ne-eqb (length e) 32 l in record { answer = rw t; state = rw t (k ∙ pending-over s at room nothing) }
 
-  pub propose-6 : {i : ℕ} → length e ≡ 32 → found ≡ Bad i → after ≡ over s (at + 32) nothing → Proposed found at s e (OutOfRange i) after
-  propose-6 l b k = let t = eq-eqb (length e) 32 l in record { answer = rw (t, b); state = rw (t, b) (k ∙ pending-over s at room nothing) }
+  module _ {b : Bool} (l : length e ≡ 32) (d : b ≡ isDone v) where
+    pub propose-refused : b ≡ false → after ≡ over s (at + 32) nothing → Proposed v at s e v after
+    propose-refused f k =
+        let t = eq-eqb (length e) 32 l in
+        let r : isDone v ≡ false = sym d ∙ f in
+        record { answer = rw t; state = rw (t, r) (k ∙ pending-over s at room nothing) }
 
-  pub propose-0 : length e ≡ 32 → found ≡ Good → after ≡ over s (at + 32) e → Proposed found at s e Done after
-  propose-0 l g k = let t = eq-eqb (length e) 32 l in record { answer = rw (t, g); state = rw (t, g) (k ∙ pending-over s at room e) }
+    pub propose-done : b ≡ true → after ≡ over s (at + 32) e → Proposed v at s e v after
+    propose-done f k =
+        let t = eq-eqb (length e) 32 l in
+        let r : isDone v ≡ true = sym d ∙ f in
+        record { answer = rw t; state = rw (t, r) (k ∙ pending-over s at room e) }
 
-  pub confirm-5 : (length e ≡ 32 → ⊥) → after ≡ over s (at + 32) nothing → Confirmed found at s e EntryLength after
+  pub confirm-5 : (length e ≡ 32 → ⊥) → after ≡ over s (at + 32) nothing → Confirmed v at s e EntryLength after
   confirm-5 l k = let t = ne-eqb (length e) 32 l in record { answer = rw t; state = rw t (k ∙ pending-over s at room nothing) }
 
-  pub confirm-7 : {i : ℕ} → length e ≡ 32 → found ≡ Bad i → after ≡ over s (at + 32) nothing → Confirmed found at s e NothingPending after
-  confirm-7 l b k = let t = eq-eqb (length e) 32 l in record { answer = rw (t, b); state = rw (t, b) (k ∙ pending-over s at room nothing) }
+  module _ {b : Bool} (l : length e ≡ 32) (d : b ≡ isDone v) where
+    pub confirm-absent : not b ≡ true → after ≡ over s (at + 32) nothing → Confirmed v at s e v after
+    confirm-absent f k =
+        let t = eq-eqb (length e) 32 l in
+        let r : isDone v ≡ false = sym d ∙ not-true b f in
+        record { answer = rw (t, r); state = rw (t, r, r) (k ∙ pending-over s at room nothing) }
 
-  module _ {d : Compared} (l : length e ≡ 32) (g : found ≡ Good) (c : d ≡ compared (part at s) e) where
-    pub confirm-8 : {i : ℕ} → d ≡ Differ i → after ≡ over s (at + 32) nothing → Confirmed found at s e (Differs i) after
-    confirm-8 {i} t k =
-        let n = eq-eqb (length e) 32 l in
-        let h : compared (take 32 (drop (at + 32) s)) e ≡ Differ i = sym (part-is at s e c) ∙ t in
-        record { answer = rw (n, g, h); state = rw (n, g, h) (k ∙ pending-over s at room nothing) }
+    module _ {c : Compared} (y : not b ≡ false) (g : c ≡ compared (part at s) e) where
+      pub confirm-8 : {i : ℕ} → c ≡ Differ i → after ≡ over s (at + 32) nothing → Confirmed v at s e (Differs i) after
+      confirm-8 {i} t k =
+          let n = eq-eqb (length e) 32 l in
+          let r : isDone v ≡ true = sym d ∙ not-false b y in
+          let h : compared (take 32 (drop (at + 32) s)) e ≡ Differ i = sym (part-is at s e g) ∙ t in
+          record { answer = rw (n, r, h); state = rw (n, r, h) (k ∙ pending-over s at room nothing) }
 
-    pub confirm-0 : {put : List ℕ} → d ≡ Same → put ≡ over s at e → after ≡ over put (at + 32) nothing → Confirmed found at s e Done after
-    confirm-0 t p k =
-        let n = eq-eqb (length e) 32 l in
-        let h : compared (take 32 (drop (at + 32) s)) e ≡ Same = sym (part-is at s e c) ∙ t in
-        record { answer = rw (n, g, h); state = rw (n, g, h) (rw p at k ∙ both-over s at room e nothing l) }
+      pub confirm-0 : {put : List ℕ} → c ≡ Same → put ≡ over s at e → after ≡ over put (at + 32) nothing → Confirmed v at s e Done after
+      confirm-0 t p k =
+          let n = eq-eqb (length e) 32 l in
+          let r : isDone v ≡ true = sym d ∙ not-false b y in
+          let h : compared (take 32 (drop (at + 32) s)) e ≡ Same = sym (part-is at s e g) ∙ t in
+          record { answer = rw (n, r, h); state = rw (n, r, h) (rw p at k ∙ both-over s at room e nothing l) }

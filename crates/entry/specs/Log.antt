@@ -1,13 +1,14 @@
--- Demand 1 over histories: what a log of the entries to a pair of records shows. A log has each entry with the number given back,
--- as a tester would keep it. `check` says what counts as a good record.
+-- Demand 1 over histories (document 01, "Settings record"): what a log of the entries to a pair of records shows. A log has each entry with
+-- the number given back, as a tester would keep it. `verdict` says what counts as a good record.
 use Prim.Native.Nat.{ℕ}
 use mathlib.Core.Path.{_≡_}
 use mathlib.Core.List.{List}
+use Rattle.answers.specs.declared.Answer.{Answer}
 use Rattle.answers.specs.Answers.{givenBack}
-use Rattle.settings.specs.declared.Checked.{Checked}
 use Rattle.entry.specs.Pair.{Pair, fresh}
-use Rattle.entry.specs.Entry.{proposeAnswer, proposed, confirmAnswer, confirmed}
+use Rattle.entry.specs.Entry.{proposeAnswer, proposed, standing, confirmAnswer, confirmed}
 
+-- An entry: its bytes, and the number given back.
 pub data Entry : Type 0 where
   propose : (e : List ℕ) (n : ℕ) → Entry
   confirm : (e : List ℕ) (n : ℕ) → Entry
@@ -18,11 +19,13 @@ pub data Log : Type 0 where
   _▷_ : Log → Entry → Log
 
 infixl 5 _▷_
--- The log and the pair that it leads to, from a fresh pair on.
-pub data Leads (check : List ℕ → Checked) : Log → Pair → Type 0 where
-  from-fresh : Leads check start fresh
-  by-propose : {l : Log} {p : Pair} → Leads check l p → (e : List ℕ) → Leads check (l ▷ propose e (givenBack (proposeAnswer (check e) e))) (proposed (check e) p e)
-  by-confirm : {l : Log} {p : Pair} → Leads check l p → (e : List ℕ) → Leads check (l ▷ confirm e (givenBack (confirmAnswer (check (p .pending)) p e))) (confirmed (check (p .pending)) p e)
+-- A log and the pair that it leads to, from a fresh pair on.
+pub data Leads (verdict : List ℕ → Answer) : Log → Pair → Type 0 where
+  from-fresh : Leads verdict start fresh
+  by-propose : {l : Log} {p : Pair} → Leads verdict l p → (e : List ℕ)
+      → Leads verdict (l ▷ propose e (givenBack (proposeAnswer (verdict e) e))) (proposed (verdict e) p e)
+  by-confirm : {l : Log} {p : Pair} → Leads verdict l p → (e : List ℕ)
+      → Leads verdict (l ▷ confirm e (givenBack (confirmAnswer (standing (verdict (p .pending))) p e))) (confirmed (standing (verdict (p .pending))) p e)
 
 -- An entry that puts nothing in force: any but a confirmation answered 0.
 abbrev pub PutsNothing : Entry → Type 0

@@ -1,9 +1,15 @@
--- A pair of records, and where it lies in the relay's state: 64 bytes from an offset on, the record in force first.
+-- Document 01, "Settings record": a pair of records, the one in force and the pending one, and where it lies in the relay's state.
 use Prim.Native.Nat.{ℕ, _+_}
 use mathlib.Core.List.{List, _++_}
 use lib.ListN.{take, drop, replicate}
 use Rattle.lent.specs.Lent.{over}
-use Rattle.settings.specs.Record.{recordLength}
+
+-- "32 bytes."
+abbrev pub recordLength : ℕ
+recordLength = 32
+
+abbrev pub pairLength : ℕ
+pairLength = 64
 
 pub record Pair : Type 0 where
   pub force : List ℕ
@@ -16,7 +22,7 @@ nothing = replicate recordLength 0
 abbrev pub fresh : Pair
 fresh = record { force = nothing; pending = nothing }
 
--- The pair at an offset of a state.
+-- The pair at an offset of a state, the record in force first.
 abbrev pub pairAt : ℕ → List ℕ → Pair
 pairAt at s =
     record { force = take recordLength (drop at s); pending = take recordLength (drop (at + recordLength) s) }

@@ -6,13 +6,13 @@ use mathlib.Core.Bool.{Bool, cond}
 use lib.ListN.{length}
 use lib.Dec.{eqb, leb}
 use Rattle.answers.specs.declared.Answer.{Answer}
-use Rattle.answers.specs.declared.Answer.the-variants.{Done, NoSettings, NoRoom, NoRelay}
-use Rattle.answers.specs.Answers.{givenBack}
+use Rattle.answers.specs.declared.Answer.the-variants.{Done, NoSettings, NoRoom, OutOfRange, NoRelay}
+use Rattle.answers.specs.Answers.{givenBack, ifDone}
 use Rattle.lent.specs.Lent.{over}
-use Rattle.settings.specs.Record.{recordLength}
 use Rattle.settings.specs.declared.Checked.{Checked}
 use Rattle.settings.specs.declared.Checked.the-variants.{Good, Bad}
 use Rattle.settings.specs.Check.{checked}
+use Rattle.entry.specs.Pair.{recordLength}
 use Rattle.entry.specs.Entry as entry
 use Rattle.gorsepetal.specs.State.{stateLength, settingsOf, withSettings}
 
@@ -20,32 +20,48 @@ use Rattle.gorsepetal.specs.State.{stateLength, settingsOf, withSettings
 abbrev pub isRelay : List ℕ → Bool
 isRelay s = eqb (length s) stateLength
 
+-- Refusal 6: a field out of range, at its offset.
+abbrev pub ofCheck : Checked → Answer
+ofCheck Good = Done
+ofCheck (Bad k) = OutOfRange k
+
+-- What propose answers to a record of 32 bytes.
+abbrev pub verdict : List ℕ → Answer
+verdict r = ofCheck (checked r)
+
+-- A good record is one that propose accepts.
+abbrev pub Accepted : List ℕ → Type 0
+Accepted r = verdict r ≡ Done
+
 -- "Propose: 5, 6."
 abbrev pub proposeAnswer : List ℕ → List ℕ → Answer
-proposeAnswer s e = cond (isRelay s) (entry.proposeAnswer (checked e) e) NoRelay
+proposeAnswer s e = cond (isRelay s) (entry.proposeAnswer (verdict e) e) NoRelay
 
 abbrev pub proposeState : List ℕ → List ℕ → List ℕ
-proposeState s e = cond (isRelay s) (withSettings s (entry.proposed (checked e) (settingsOf s) e)) s
+proposeState s e = cond (isRelay s) (withSettings s (entry.proposed (verdict e) (settingsOf s) e)) s
 
--- "Confirm: 5, 7, 8." A stored record that propose would refuse counts as absent.
+-- "Confirm: 5, 7, 8." Whether a record is pending goes by the verdict on what is stored.
+abbrev pub standing : List ℕ → Answer
+standing s = entry.standing (verdict (settingsOf s .pending))
+
 abbrev pub confirmAnswer : List ℕ → List ℕ → Answer
-confirmAnswer s e = cond (isRelay s) (entry.confirmAnswer (checked (settingsOf s .pending)) (settingsOf s) e) NoRelay
+confirmAnswer s e = cond (isRelay s) (entry.confirmAnswer (standing s) (settingsOf s) e) NoRelay
 
 abbrev pub confirmState : List ℕ → List ℕ → List ℕ
-confirmState s e = cond (isRelay s) (withSettings s (entry.confirmed (checked (settingsOf s .pending)) (settingsOf s) e)) s
+confirmState s e = cond (isRelay s) (withSettings s (entry.confirmed (standing s) (settingsOf s) e)) s
 
--- Refusal 1: no settings in force.
-abbrev pub ofForce : Checked → Answer → Answer
-ofForce Good a = a
-ofForce (Bad k) a = NoSettings
+-- Refusal 1: no settings in force. It goes by the verdict on what is stored, too.
+abbrev pub inForce : List ℕ → Answer
+inForce s = entry.present (verdict (settingsOf s .force)) NoSettings
 
 -- "Read-back: 1, 3." Refusal 3: room below 32 bytes.
 abbrev pub readBackAnswer : List ℕ → List ℕ → Answer
-readBackAnswer s out = cond (isRelay s) (ofForce (checked (settingsOf s .force)) (cond (leb recordLength (length out)) Done NoRoom)) NoRelay
+readBackAnswer s out =
+    cond (isRelay s) (ifDone (inForce s) (cond (leb recordLength (length out)) Done NoRoom) (inForce s)) NoRelay
 
--- "Read-back writes the 32 bytes of the record in force at the front of the lent buffer; later bytes stay."
+-- "Read-back writes the 32 bytes of the record in force" at the front of the lent buffer; "later bytes stay".
 abbrev pub readBackOut : List ℕ → List ℕ → List ℕ
-readBackOut s out = entry.ifDone (readBackAnswer s out) (over out 0 (settingsOf s .force)) out
+readBackOut s out = ifDone (readBackAnswer s out) (over out 0 (settingsOf s .force)) out
 
 -- What each call promises of the number n given back and of what it leaves.
 pub record Proposed (s e : List ℕ) (n : ℕ) (after : List ℕ) : Type 0 where

@@ -1,4 +1,4 @@
--- The relay's state: 64 lent bytes, the main pair of records. "All zero bytes are a fresh relay."
+-- Document 01, first paragraph: the relay's state is lent as a slice of one fixed length; "all zero bytes are a fresh relay".
 use Prim.Native.Nat.{ℕ}
 use mathlib.Core.List.{List}
 use lib.ListN.{replicate}
@@ -10,7 +10,7 @@ stateLength = 64
 abbrev pub freshState : List ℕ
 freshState = replicate stateLength 0
 
--- The main pair of records: it lies at the front.
+-- The main pair of records, which lies at the front: here it is all there is.
 abbrev pub settingsOf : List ℕ → Pair
 settingsOf s = pairAt 0 s
 

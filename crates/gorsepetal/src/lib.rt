@@ -1,6 +1,8 @@
 // What C calls. The relay's state is lent, and all zero bytes are a fresh relay: the main pair of records, the one in force and then
 // the pending one.
-ghost use Rattle.gorsepetal.specs.Calls.{Proposed, Confirmed, ReadBack};
+ghost use mathlib.Core.Path.{_≡_};
+ghost use Rattle.entry.specs.Entry.{present};
+ghost use Rattle.gorsepetal.specs.Calls.{verdict, Proposed, Confirmed, ReadBack};
 use answers::Answer;
 use entry::RECORD_LENGTH;
 use settings::Checked;
@@ -14,6 +16,27 @@ const PENDING: usize = 32;
 
 const MAIN_END: usize = 64;
 
+// What propose answers to a record of 32 bytes.
+fn verdict(r: &[u8]) -> Answer
+    ensures { λ a. ⌜ a ≡ verdict (now (r .entry)) ⌝ }
+{
+    match settings::check(r) {
+        Checked::Good => Answer::Done,
+        Checked::Bad(at) => Answer::OutOfRange(at),
+    }
+}
+
+// Whether a stored record counts: done if propose would accept it, else the refusal for an absent one.
+fn present(r: &[u8], absent: Answer) -> Answer
+    ensures { λ a. ⌜ a ≡ present (verdict (now (r .entry))) absent ⌝ }
+{
+    if answers::is_done(verdict(r)) {
+        Answer::Done
+    } else {
+        absent
+    }
+}
+
 // A first entry: it becomes pending if it is good.
 #[no_mangle]
 pub extern "C" fn gorsepetal_propose(state: &mut [u8], entry: &[u8]) -> u64
@@ -22,7 +45,7 @@ pub extern "C" fn gorsepetal_propose(state: &mut [u8], entry: &[u8]) -> u64
     if state.len() != STATE_LENGTH {
         return answers::given_back(Answer::NoRelay);
     }
-    answers::given_back(entry::propose(state, MAIN, entry, settings::check(entry)))
+    answers::given_back(entry::propose(state, MAIN, entry, verdict(entry)))
 }
 
 // A second entry: the pending record comes into force if this one is the same 32 bytes.
@@ -33,8 +56,8 @@ pub extern "C" fn gorsepetal_confirm(state: &mut [u8], entry: &[u8]) -> u64
     if state.len() != STATE_LENGTH {
         return answers::given_back(Answer::NoRelay);
     }
-    let found = settings::check(&state[PENDING..MAIN_END]);
-    answers::given_back(entry::confirm(state, MAIN, entry, found))
+    let standing = present(&state[PENDING..MAIN_END], Answer::NothingPending);
+    answers::given_back(entry::confirm(state, MAIN, entry, standing))
 }
 
 // The record in force, at the front of a lent buffer.
@@ -45,14 +68,13 @@ pub extern "C" fn gorsepetal_read_back(state: &[u8], out: &mut [u8]) -> u64
     if state.len() != STATE_LENGTH {
         return answers::given_back(Answer::NoRelay);
     }
-    match settings::check(&state[MAIN..PENDING]) {
-        Checked::Bad(_) => answers::given_back(Answer::NoSettings),
-        Checked::Good => {
-            if out.len() < RECORD_LENGTH {
-                return answers::given_back(Answer::NoRoom);
-            }
-            lent::put(out, 0, &state[MAIN..PENDING]);
-            answers::given_back(Answer::Done)
-        }
+    let in_force = present(&state[MAIN..PENDING], Answer::NoSettings);
+    if !answers::is_done(in_force) {
+        return answers::given_back(in_force);
     }
+    if out.len() < RECORD_LENGTH {
+        return answers::given_back(Answer::NoRoom);
+    }
+    lent::put(out, 0, &state[MAIN..PENDING]);
+    answers::given_back(Answer::Done)
 }

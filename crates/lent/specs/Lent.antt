@@ -1,4 +1,5 @@
--- What is done to lent bytes: a part written over, and the first place at which two lists differ.
+-- Document 01, "Decision record" and "Numbers given back": what is done to lent bytes. A part is written over, later bytes stay; and the
+-- first place at which two lists differ.
 use Prim.Native.Nat.{ℕ, suc, _+_}
 use mathlib.Core.List.{List, [], _∷_, _++_}
 use mathlib.Core.Bool.{cond}

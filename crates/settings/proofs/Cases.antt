@@ -29,6 +29,10 @@ pub turn-end : (s : List ℕ) (rs : List Rule) (i : ℕ) → length rs ≤ i →
 unfolding checkedBy
 turn-end s rs i h = rw (drop-of-length-le rs h)
 
-pub table-length : length table ≡ 21
+-- How many rules there are: the code's RULES.
+abbrev pub rules-count : ℕ
+rules-count = 21
+
+pub table-length : length table ≡ rules-count
 unfolding table
 table-length = refl

@@ -12,13 +12,8 @@ use Rattle.whole.proofs.Machine.{le-true, lt-true}
 use Rattle.settings.specs.declared.Rule.{Rule}
 use Rattle.settings.specs.declared.Checked.the-variants.{Good, Bad}
 use Rattle.settings.specs.Table.{table}
-use Rattle.settings.specs.Check.{within, withinSigned, holds, place, checkedBy, checked}
+use Rattle.settings.specs.Check.{within, withinSigned, holds, place, checkedBy, AllHold, checked}
 use Rattle.settings.specs.Fields.{From, FromSigned, Ranges}
-
--- Every rule of a list holds.
-abbrev pub AllHold : List Rule → List ℕ → Type 0
-AllHold [] s = Unit {0}
-AllHold (r ∷ rs) s = (holds s r ≡ true) × AllHold rs s
 
 bad-not-good : (k : ℕ) → Bad k ≡ Good → ⊥
 bad-not-good k e = let z : _≡_ {A = ℕ} 0 1 = cc in omega arith
@@ -43,6 +38,9 @@ from low high v t =
     let p = and-eq-true-iff (leb low v) (leb v high) .0 t in
     record { least = leb-true low v (p .0); most = leb-true v high (p .1) }
 
+zero : (v : ℕ) → within 0 0 v ≡ true → v ≡ 0
+zero v t = omega (arith, from 0 0 v t .most)
+
 from-signed : (low high v : ℤ) → withinSigned low high v ≡ true → FromSigned low high v
 from-signed low high v t =
     let p = and-eq-true-iff (leZ low v) (leZ v high) .0 t in
@@ -56,6 +54,7 @@ ranges s g =
     let b = a .1 .1 .1 .1 in
     let c = b .1 .1 .1 .1 in
     let d = c .1 .1 .1 .1 in
+    let e = d .1 .1 .1 in
     record {
       ends-range = from _ _ _ (a .0);
       slope-range = from _ _ _ (a .1 .0);
@@ -72,4 +71,5 @@ ranges s g =
       reverseLimit-range = from-signed _ _ _ (d .0);
       limits-order = lt-true (d .1 .0);
       negativePickup-range = from _ _ _ (d .1 .1 .0);
+      spare-bytes = (zero _ (e .0), zero _ (e .1 .0), zero _ (e .1 .1 .0), zero _ (e .1 .1 .1 .0), zero _ (e .1 .1 .1 .1 .0), zero _ (e .1 .1 .1 .1 .1 .0));
     }

@@ -1,13 +1,14 @@
 -- Document 01, "Settings record": checks go by offset.
 use Prim.Native.Nat.{ℕ, _+_, _*_}
+use mathlib.Core.Path.{_≡_}
 use mathlib.Core.List.{List, [], _∷_}
-use mathlib.Core.Bool.{Bool, cond, _&&_}
+use mathlib.Core.Bool.{Bool, true, cond, _&&_}
 use lib.ListN.{getD}
 use lib.IntN.{ℤ}
 use lib.Signed.{leZ, ltZ}
-use lib.Dec.{leb, eqb}
+use lib.Dec.{leb}
 use Rattle.settings.specs.declared.Rule.{Rule}
-use Rattle.settings.specs.declared.Rule.the-variants.{Unsigned, Signed, Squares, Below, Spare}
+use Rattle.settings.specs.declared.Rule.the-variants.{Unsigned, Signed, Squares, Below, Byte}
 use Rattle.settings.specs.declared.Checked.{Checked}
 use Rattle.settings.specs.declared.Checked.the-variants.{Good, Bad}
 use Rattle.settings.specs.Record.{fieldAt, signedAt}
@@ -26,7 +27,7 @@ holds s (Unsigned at low high) = within low high (fieldAt s at)
 holds s (Signed at low high) = withinSigned low high (signedAt s at)
 holds s (Squares x y low high) = within low high (fieldAt s x * fieldAt s x + fieldAt s y * fieldAt s y)
 holds s (Below x y) = ltZ (signedAt s x) (signedAt s y)
-holds s (Spare at) = eqb (getD s at 0) 0
+holds s (Byte at low high) = within low high (getD s at 0)
 
 -- The offset at which a fault of it is reported: of a rule on two fields, the later one's.
 abbrev pub place : Rule → ℕ
@@ -34,12 +35,18 @@ place (Unsigned at low high) = at
 place (Signed at low high) = at
 place (Squares x y low high) = y
 place (Below x y) = y
-place (Spare at) = at
+place (Byte at low high) = at
 
 -- The first rule of a list that a record breaks.
 unfoldable pub checkedBy : List Rule → List ℕ → Checked
 checkedBy [] s = Good
 checkedBy (r ∷ rs) s = cond (holds s r) (checkedBy rs s) (Bad (place r))
 
+-- Every rule of a list holds.
+abbrev pub AllHold : List Rule → List ℕ → Type 0
+AllHold [] s = Unit {0}
+AllHold (r ∷ rs) s = (holds s r ≡ true) × AllHold rs s
+
+-- What the check of a record finds.
 abbrev pub checked : List ℕ → Checked
 checked s = checkedBy table s

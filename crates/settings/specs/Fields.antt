@@ -1,6 +1,8 @@
 -- Document 01, "Settings record": the fields by name, and the range of each in every good record.
 use Prim.Native.Nat.{ℕ, _+_, _*_, _≤_}
+use mathlib.Core.Path.{_≡_}
 use mathlib.Core.List.{List}
+use lib.ListN.{getD}
 use lib.IntN.{ℤ, pos}
 use lib.Signed.{_≤ℤ_, _<ℤ_}
 use Rattle.settings.specs.Record.{minus, fieldAt, signedAt}
@@ -79,3 +81,4 @@ pub record Ranges (s : List ℕ) : Type 0 where
   pub reverseLimit-range : FromSigned (minus 20000) (pos 20000) (reverseLimit s)
   pub limits-order : forwardLimit s <ℤ reverseLimit s
   pub negativePickup-range : From 1 42000 (negativePickup s)
+  pub spare-bytes : (getD s 26 0 ≡ 0) × (getD s 27 0 ≡ 0) × (getD s 28 0 ≡ 0) × (getD s 29 0 ≡ 0) × (getD s 30 0 ≡ 0) × (getD s 31 0 ≡ 0)

@@ -6,9 +6,6 @@ use lib.ListN.{getD}
 use lib.IntN.{ℤ, pos, negℤ, _-ℤ_}
 use lib.Dec.{ltb}
 
-abbrev pub recordLength : ℕ
-recordLength = 32
-
 -- The 16-bit number at an offset; past the end a byte reads as 0.
 abbrev pub fieldAt : List ℕ → ℕ → ℕ
 fieldAt s at = getD s at 0 * 256 + getD s (at + 1) 0

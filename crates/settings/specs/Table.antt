@@ -3,7 +3,7 @@
 use mathlib.Core.List.{List, [], _∷_}
 use lib.IntN.{pos}
 use Rattle.settings.specs.declared.Rule.{Rule}
-use Rattle.settings.specs.declared.Rule.the-variants.{Unsigned, Signed, Squares, Below, Spare}
+use Rattle.settings.specs.declared.Rule.the-variants.{Unsigned, Signed, Squares, Below, Byte}
 use Rattle.settings.specs.Record.{minus}
 
 unfoldable pub table : List Rule
@@ -33,10 +33,10 @@ table =
     -- pickup of 3I2, counts
     ∷ Unsigned 24 1 42000
     -- zero bytes
-    ∷ Spare 26
-    ∷ Spare 27
-    ∷ Spare 28
-    ∷ Spare 29
-    ∷ Spare 30
-    ∷ Spare 31
+    ∷ Byte 26 0 0
+    ∷ Byte 27 0 0
+    ∷ Byte 28 0 0
+    ∷ Byte 29 0 0
+    ∷ Byte 30 0 0
+    ∷ Byte 31 0 0
     ∷ []

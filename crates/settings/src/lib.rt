@@ -16,8 +16,8 @@ pub enum Rule {
     Squares(u8, u8, u64, u64),
     // a signed field below another
     Below(u8, u8),
-    // a byte that is zero
-    Spare(u8),
+    // the byte at an offset, from a least to a greatest number
+    Byte(u8, u64, u64),
 }
 
 // What a check finds: a good record, or the offset of the first fault.
@@ -49,12 +49,12 @@ fn rules() -> [Rule; RULES]
         Rule::Signed(22, -20000, 20000),
         Rule::Below(20, 22),
         Rule::Unsigned(24, 1, 42000),
-        Rule::Spare(26),
-        Rule::Spare(27),
-        Rule::Spare(28),
-        Rule::Spare(29),
-        Rule::Spare(30),
-        Rule::Spare(31),
+        Rule::Byte(26, 0, 0),
+        Rule::Byte(27, 0, 0),
+        Rule::Byte(28, 0, 0),
+        Rule::Byte(29, 0, 0),
+        Rule::Byte(30, 0, 0),
+        Rule::Byte(31, 0, 0),
     ]
 }
 
@@ -125,7 +125,7 @@ fn kept(s: &[u8], rule: Rule) -> bool
         Rule::Signed(at, low, high) => between_signed(signed_field(s, at), low, high),
         Rule::Squares(x, y, low, high) => between(squares(field(s, x), field(s, y)), low, high),
         Rule::Below(x, y) => signed_field(s, x) < signed_field(s, y),
-        Rule::Spare(at) => byte(s, at as usize) == 0,
+        Rule::Byte(at, low, high) => between(byte(s, at as usize), low, high),
     }
 }
 
@@ -138,7 +138,7 @@ fn place(rule: Rule) -> u8
         Rule::Signed(at, _, _) => at,
         Rule::Squares(_, at, _, _) => at,
         Rule::Below(_, at) => at,
-        Rule::Spare(at) => at,
+        Rule::Byte(at, _, _) => at,
     }
 }
 

@@ -15,7 +15,7 @@ use Rattle.whole.specs.Root.{floorRoot, rootUp}
 use Rattle.whole.proofs.Difference.{diff, d-atom, d-lt, of-le, of-lt, of-eq}
 use Rattle.whole.proofs.Certificate.{quo, ring!, le!, lt!, le-times!, false!, g-le, g-lt, g-eq, g-num, g-sq, _⊞_, _⊠_}
 use Rattle.whole.proofs.Order.{le-ℤ, lt-ℕ}
-use Rattle.whole.proofs.Triangle.{sumBy}
+use Rattle.whole.specs.Length.{sumBy}
 use Rattle.whole.proofs.Size.{add, mul, lit, wider, fit, small-at}
 use Rattle.whole.proofs.Rounding.{round-near, round-bound}
 
@@ -99,6 +99,10 @@ square = refl
 below-square : floorRoot 999999999999999999999999 ≡ 999999999999
 unfolding floorRoot
 below-square = refl
+
+root-down : floorRoot 8192 ≡ 90
+unfolding floorRoot
+root-down = refl
 
 -- an end of P11: 64 times the root of 2 is a little more than 90
 p11 : rootUp 8192 ≡ 91

@@ -1,15 +1,10 @@
 -- Vectors of two whole numbers and bounds on their length: Cauchy's inequality, and the triangle's, folded over a list.
--- A length is a root, so it is spoken of by its square alone.
 use mathlib.Core.List.{List, [], _∷_}
 use lib.IntN.{ℤ, pos, negℤ, _+ℤ_, _-ℤ_, _*ℤ_}
 use lib.Signed.{_≤ℤ_, leZ-yes}
+use Rattle.whole.specs.Length.{Len, sumBy, All}
 use Rattle.whole.proofs.Certificate.{quo, le!, g-le, g-num, g-sq, _⊞_, _⊠_}
 use Rattle.whole.proofs.Order.{≤-trans, sq-≤}
-
--- the vector (x, y) is at most a long
-pub record Len (x y a : ℤ) : Type 0 where
-  pub nonneg : pos 0 ≤ℤ a
-  pub square : (x *ℤ x +ℤ y *ℤ y) ≤ℤ (a *ℤ a)
 
 -- a scalar product is at most the product of the lengths
 pub cauchy : {x y z w a b : ℤ} → Len x y a → Len z w b → (x *ℤ z +ℤ y *ℤ w) ≤ℤ (a *ℤ b)
@@ -41,14 +36,6 @@ pub len-root : {x y a : ℤ} (t : ℤ) → Len x y a → (t *ℤ t) ≤ℤ (x *�
 len-root {a = a} t h k = sq-≤ t a (h .nonneg) (≤-trans k (h .square))
 
 -- ---- over a list
-
-abbrev pub sumBy : {A : Type 0} → (A → ℤ) → List A → ℤ
-sumBy f [] = pos 0
-sumBy f (v ∷ vs) = f v +ℤ sumBy f vs
-
-abbrev pub All : {A : Type 0} → (A → Type 0) → List A → Type 0
-All P [] = Unit {0}
-All P (v ∷ vs) = P v × All P vs
 
 pub len-zero : Len (pos 0) (pos 0) (pos 0)
 len-zero = record { nonneg = leZ-yes tt; square = leZ-yes tt }

@@ -1,6 +1,6 @@
 -- `entry::confirm` meets its contract: one law for each way out. Assumes nothing.
 use borrow.Author.Needs.{needs}
-use Rattle.entry.proofs.Cases.{confirm-5, confirm-7, confirm-8, confirm-0, differ-fits}
+use Rattle.entry.proofs.Cases.{confirm-5, confirm-absent, confirm-8, confirm-0, differ-fits}
 use Rattle.entry.proofs.confirm.Statement.{statement}
 use Rattle.entry.proofs.confirm.Tie as tie
 
@@ -13,14 +13,17 @@ same-length c = search needs
 returns : tie.Need-returns
 returns c = search (needs, confirm-5)
 
-enum-told : tie.Need-enum-told
-enum-told c = search needs
+is-done-requires : tie.Need-is-done-requires
+is-done-requires c κs = search needs
 
 clear-requires-2 : tie.Need-clear-requires-2
 clear-requires-2 c κs = search needs
 
-enum-told-2 : tie.Need-enum-told-2
-enum-told-2 c = search needs
+same-length-2 : tie.Need-same-length-2
+same-length-2 c = search needs
+
+returns-2 : tie.Need-returns-2
+returns-2 c = search (needs, confirm-absent)
 
 add-from : tie.Need-add-from
 add-from c = search needs
@@ -46,23 +49,17 @@ enum-known-k c = search needs
 clear-requires-3 : tie.Need-clear-requires-3
 clear-requires-3 c κs = search needs
 
-cast-t26 : tie.Need-cast-t26
-cast-t26 c = record { fits = search (needs, differ-fits) }
+cast-t25 : tie.Need-cast-t25
+cast-t25 c = record { fits = search (needs, differ-fits) }
 
-enum-told-3 : tie.Need-enum-told-3
-enum-told-3 c = search needs
+enum-told : tie.Need-enum-told
+enum-told c = search needs
 
 put-requires : tie.Need-put-requires
 put-requires c κs = search needs
 
 clear-requires-4 : tie.Need-clear-requires-4
 clear-requires-4 c κs = search needs
-
-same-length-2 : tie.Need-same-length-2
-same-length-2 c = search needs
-
-returns-2 : tie.Need-returns-2
-returns-2 c = search (needs, confirm-7)
 
 same-length-3 : tie.Need-same-length-3
 same-length-3 c = search needs
@@ -83,9 +80,10 @@ confirm-spec =
     clear-requires
     same-length
     returns
-    enum-told
+    is-done-requires
     clear-requires-2
-    enum-told-2
+    same-length-2
+    returns-2
     add-from
     add-to
     sub-compare
@@ -94,12 +92,10 @@ confirm-spec =
     compare-requires
     enum-known-k
     clear-requires-3
-    cast-t26
-    enum-told-3
+    cast-t25
+    enum-told
     put-requires
     clear-requires-4
-    same-length-2
-    returns-2
     same-length-3
     returns-3
     same-length-4

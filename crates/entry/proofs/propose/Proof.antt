@@ -1,6 +1,6 @@
 -- `entry::propose` meets its contract: one law for each way out. Assumes nothing.
 use borrow.Author.Needs.{needs}
-use Rattle.entry.proofs.Cases.{propose-5, propose-6, propose-0}
+use Rattle.entry.proofs.Cases.{propose-5, propose-refused, propose-done}
 use Rattle.entry.proofs.propose.Statement.{statement}
 use Rattle.entry.proofs.propose.Tie as tie
 
@@ -13,14 +13,8 @@ same-length c = search needs
 returns : tie.Need-returns
 returns c = search (needs, propose-5)
 
-enum-known-found : tie.Need-enum-known-found
-enum-known-found c = search needs
-
-clear-requires-2 : tie.Need-clear-requires-2
-clear-requires-2 c κs = search needs
-
-enum-told : tie.Need-enum-told
-enum-told c = search needs
+is-done-requires : tie.Need-is-done-requires
+is-done-requires c κs = search needs
 
 add-put : tie.Need-add-put
 add-put c = search needs
@@ -28,17 +22,20 @@ add-put c = search needs
 put-requires : tie.Need-put-requires
 put-requires c κs = search needs
 
+clear-requires-2 : tie.Need-clear-requires-2
+clear-requires-2 c κs = search needs
+
 same-length-2 : tie.Need-same-length-2
 same-length-2 c = search needs
 
 returns-2 : tie.Need-returns-2
-returns-2 c = search (needs, propose-6)
+returns-2 c = search (needs, propose-done)
 
 same-length-3 : tie.Need-same-length-3
 same-length-3 c = search needs
 
 returns-3 : tie.Need-returns-3
-returns-3 c = search (needs, propose-0)
+returns-3 c = search (needs, propose-refused)
 
 pub propose-spec : {M : Type 1} → statement M
 propose-spec =
@@ -47,11 +44,10 @@ propose-spec =
     clear-requires
     same-length
     returns
-    enum-known-found
-    clear-requires-2
-    enum-told
+    is-done-requires
     add-put
     put-requires
+    clear-requires-2
     same-length-2
     returns-2
     same-length-3

@@ -10,17 +10,17 @@ given-back-requires c κs = search needs
 returns : tie.Need-returns
 returns c = search (needs, confirm-17)
 
-sub-check : tie.Need-sub-check
-sub-check c = search needs
+sub-present : tie.Need-sub-present
+sub-present c = search needs
 
-part-check-start : tie.Need-part-check-start
-part-check-start c = search needs
+part-present-start : tie.Need-part-present-start
+part-present-start c = search needs
 
-part-check-end : tie.Need-part-check-end
-part-check-end c = search needs
+part-present-end : tie.Need-part-present-end
+part-present-end c = search needs
 
-check-requires : tie.Need-check-requires
-check-requires c κs = search needs
+present-requires : tie.Need-present-requires
+present-requires c κs = search needs
 
 confirm-requires : tie.Need-confirm-requires
 confirm-requires c κs = search needs
@@ -40,10 +40,10 @@ gorsepetal-confirm-spec =
     (tie.spec
     given-back-requires
     returns
-    sub-check
-    part-check-start
-    part-check-end
-    check-requires
+    sub-present
+    part-present-start
+    part-present-end
+    present-requires
     confirm-requires
     given-back-requires-2
     same-length

@@ -10,8 +10,8 @@ given-back-requires c κs = search needs
 returns : tie.Need-returns
 returns c = search (needs, propose-17)
 
-check-requires : tie.Need-check-requires
-check-requires c κs = search needs
+verdict-requires : tie.Need-verdict-requires
+verdict-requires c κs = search needs
 
 propose-requires : tie.Need-propose-requires
 propose-requires c κs = search needs
@@ -31,7 +31,7 @@ gorsepetal-propose-spec =
     (tie.spec
     given-back-requires
     returns
-    check-requires
+    verdict-requires
     propose-requires
     given-back-requires-2
     same-length

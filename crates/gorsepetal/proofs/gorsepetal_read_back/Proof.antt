@@ -10,32 +10,32 @@ given-back-requires c κs = search needs
 returns : tie.Need-returns
 returns c = search (needs, read-17)
 
-sub-check : tie.Need-sub-check
-sub-check c = search needs
+sub-present : tie.Need-sub-present
+sub-present c = search needs
 
-part-check-start : tie.Need-part-check-start
-part-check-start c = search needs
+part-present-start : tie.Need-part-present-start
+part-present-start c = search needs
 
-part-check-end : tie.Need-part-check-end
-part-check-end c = search needs
+part-present-end : tie.Need-part-present-end
+part-present-end c = search needs
 
-check-requires : tie.Need-check-requires
-check-requires c κs = search needs
+present-requires : tie.Need-present-requires
+present-requires c κs = search needs
 
-enum-told : tie.Need-enum-told
-enum-told c = search needs
+is-done-requires : tie.Need-is-done-requires
+is-done-requires c κs = search needs
 
 given-back-requires-2 : tie.Need-given-back-requires-2
 given-back-requires-2 c κs = search needs
 
-enum-told-2 : tie.Need-enum-told-2
-enum-told-2 c = search needs
+returns-2 : tie.Need-returns-2
+returns-2 c = search (needs, read-1)
 
 given-back-requires-3 : tie.Need-given-back-requires-3
 given-back-requires-3 c κs = search needs
 
-returns-2 : tie.Need-returns-2
-returns-2 c = search (needs, read-3)
+returns-3 : tie.Need-returns-3
+returns-3 c = search (needs, read-3)
 
 sub-put : tie.Need-sub-put
 sub-put c = search needs
@@ -52,9 +52,6 @@ put-requires c κs = search needs
 given-back-requires-4 : tie.Need-given-back-requires-4
 given-back-requires-4 c κs = search needs
 
-returns-3 : tie.Need-returns-3
-returns-3 c = search (needs, read-1)
-
 same-length : tie.Need-same-length
 same-length c = search needs
 
@@ -67,20 +64,19 @@ gorsepetal-read-back-spec =
     (tie.spec
     given-back-requires
     returns
-    sub-check
-    part-check-start
-    part-check-end
-    check-requires
-    enum-told
+    sub-present
+    part-present-start
+    part-present-end
+    present-requires
+    is-done-requires
     given-back-requires-2
-    enum-told-2
-    given-back-requires-3
     returns-2
+    given-back-requires-3
+    returns-3
     sub-put
     part-put-start
     part-put-end
     put-requires
     given-back-requires-4
-    returns-3
     same-length
     returns-4)

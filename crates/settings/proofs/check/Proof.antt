@@ -8,15 +8,15 @@ use denote.Ref.{now}
 use lib.ListN.{length, drop}
 use Rattle.settings.specs.Check.{checkedBy, checked}
 use Rattle.settings.specs.declared.Checked.the-variants.{Bad}
-use Rattle.settings.proofs.Cases.{turn-kept, turn-broken, turn-end, table-length}
+use Rattle.settings.proofs.Cases.{turn-kept, turn-broken, turn-end, rules-count, table-length}
 use Rattle.settings.proofs.check.Statement.{statement}
 use Rattle.settings.proofs.check.Tie as tie
 
 abbrev Inv-loop : tie.InvT-loop
-Inv-loop s rules i₀ i = (i ≤ 21) × (length rules ≡ 21) × (checkedBy (drop i rules) s ≡ checked s)
+Inv-loop s rules i₀ i = (i ≤ rules-count) × (length rules ≡ rules-count) × (checkedBy (drop i rules) s ≡ checked s)
 
 abbrev μ-loop : tie.MeasureT-loop
-μ-loop s rules i₀ i = 21 - i
+μ-loop s rules i₀ i = rules-count - i
 
 rules-requires : tie.Need-rules-requires Inv-loop μ-loop
 rules-requires c κs = search needs

@@ -58,6 +58,9 @@ cast-byte c = search needs
 byte-requires : tie.Need-byte-requires
 byte-requires c κs = search needs
 
+between-requires-3 : tie.Need-between-requires-3
+between-requires-3 c κs = search needs
+
 returns : tie.Need-returns
 returns c = rw (c .before .before .before .rule .given .1) cc
 
@@ -81,7 +84,7 @@ returns-4 c =
     rw (c .before .before .before .rule4 .given .1) (simp (back (x .result) (x .ok), back (y .result) (y .ok)) (ap₂ ltZ (x .ensures) (y .ensures)))
 
 returns-5 : tie.Need-returns-5
-returns-5 c = rw (c .before .before .rule5 .given .1) cc
+returns-5 c = rw (c .before .before .before .rule5 .given .1) cc
 
 pub kept-spec : {M : Type 1} → statement M
 kept-spec =
@@ -104,6 +107,7 @@ kept-spec =
     enum-known-rule-5
     cast-byte
     byte-requires
+    between-requires-3
     returns
     returns-2
     returns-3

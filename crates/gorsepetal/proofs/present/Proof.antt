@@ -1,0 +1,23 @@
+-- `gorsepetal::present` meets its contract: the test on the verdict picks the case. Assumes nothing.
+use mathlib.Core.Path.{sym, ap, _∙_}
+use borrow.Author.Needs.{needs}
+use Rattle.answers.specs.Answers.{isDone}
+use Rattle.gorsepetal.proofs.present.Statement.{statement}
+use Rattle.gorsepetal.proofs.present.Tie as tie
+
+verdict-requires : tie.Need-verdict-requires
+verdict-requires c κs = search needs
+
+is-done-requires : tie.Need-is-done-requires
+is-done-requires c κs = search needs
+
+returns : tie.Need-returns
+returns c =
+    let k = c .before in rw (sym (ap isDone (k .before .verdict .ensures)) ∙ sym (k .is-done .ensures) ∙ c .if1 .taken)
+
+returns-2 : tie.Need-returns-2
+returns-2 c =
+    let k = c .before in rw (sym (ap isDone (k .before .verdict .ensures)) ∙ sym (k .is-done .ensures) ∙ c .if1 .left)
+
+pub present-spec : {M : Type 1} → statement M
+present-spec = tie.close (tie.spec verdict-requires is-done-requires returns returns-2)
