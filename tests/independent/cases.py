@@ -17,7 +17,7 @@ class History(NamedTuple):
 SAMPLE = bytes.fromhex('0002000F0064000003E80352029B0000000003E8FED4012C0032000000000000')
 ANOTHER = SAMPLE[:3] + b'\x32' + SAMPLE[4:]
 ROOM = bytes([0x5A]) * RECORD
-LENGTHS = [*range(81), 128, 255, 256, 257, 256 + RECORD, 256 + STATE, 4096, 65535]
+LENGTHS = [*range(81), 128, 255, 256, 257, 256 + RECORD, 256 + STATE, 4096, 65535, 65536, 65536 + RECORD, 65536 + STATE]
 ANGLES = {re: [im for im in range(1001) if re * re + im * im in SQUARES] for re in range(1001)}  # real part: imaginary parts
 
 
@@ -157,7 +157,7 @@ def any_record(rng):
 
 
 def any_length(rng, data):
-    return data if rng.random() < 0.9 else cut_or_filled(data, rng.choice(LENGTHS[:-2]))
+    return data if rng.random() < 0.9 else cut_or_filled(data, rng.choice(LENGTHS[:-5]))
 
 
 def single(rng):

@@ -40,7 +40,7 @@ def guarded(data):
 
 def lend(letter, data):
     """One slice in the driver's form."""
-    return letter.encode() + bytes([len(BEFORE)]) + len(data).to_bytes(2, 'big') + guarded(data)
+    return letter.encode() + bytes([len(BEFORE)]) + len(data).to_bytes(3, 'big') + guarded(data)
 
 
 def follow(history):

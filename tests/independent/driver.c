@@ -1,7 +1,7 @@
 /*
 ** Makes the calls that standard input describes and writes what each left to standard output; it judges nothing.
 **
-** Input: a letter, the length of a guard (1 byte) and of a slice (2 bytes, upper first), then guard, slice, guard. The letter s
+** Input: a letter, the length of a guard (1 byte) and of a slice (3 bytes, upper first), then guard, slice, guard. The letter s
 ** lends a new relay; p, c and r propose, confirm and read back with the relay as the last call left it.
 ** Output for p, c and r: what came back (8 bytes, upper first), then the relay and the other slice, each with its guards.
 */
@@ -9,7 +9,7 @@
 
 #include "gorsepetal.h"
 
-enum { HEAD = 4, MOST = 2 * 255 + 65535 };
+enum { HEAD = 5, LONGEST = 2 * 65536, MOST = 255 + LONGEST + 255 };
 
 struct lent {
   uint8_t all[MOST];
@@ -21,8 +21,8 @@ static size_t whole(const struct lent *slice) { return slice->guard + slice->len
 
 static int take(struct lent *slice, const uint8_t head[HEAD]) {
   slice->guard = head[1];
-  slice->length = 256 * (size_t)head[2] + head[3];
-  return fread(slice->all, 1, whole(slice), stdin) == whole(slice);
+  slice->length = 65536 * (size_t)head[2] + 256 * (size_t)head[3] + head[4];
+  return slice->length <= LONGEST && fread(slice->all, 1, whole(slice), stdin) == whole(slice);
 }
 
 static uint64_t call(uint8_t letter) {
