@@ -70,7 +70,7 @@ def batches(histories, count):
 
 
 def as_bytes(wanted):
-    return (256 * wanted.place + wanted.number).to_bytes(8, 'big') + guarded(wanted.state) + guarded(wanted.other)
+    return wanted.to_c().to_bytes(8, 'big') + guarded(wanted.state) + guarded(wanted.other)
 
 
 def shown(part):

@@ -1,14 +1,35 @@
-"""Document 01's rules for settings, once more and from the document alone: its headings, its order, its words.
+"""The rules of document 01 for settings, in its order and words.
 
-It shares no code and no table with the crates, so that a mistake in one of the two shows as a difference.
+Each call takes the relay's state and the other lent slice as bytes, and gives
+what it leaves of both. Comments in quotes are the document's own sentences.
 """
 from typing import NamedTuple, Optional
 
-# Settings record: 32 bytes, no header, all fields 16-bit big-endian.
+# ---- First paragraph -------------------------------------------------------
 
+# "The relay's state is lent from C too, as a slice of one fixed length; all
+# zero bytes are a fresh relay."
+# Bytes 0 to 31 are the record in force, bytes 32 to 63 the pending one.
 RECORD = 32
+STATE = 64
+NOTHING = bytes(RECORD)
 
 
+class Result(NamedTuple):
+    number: int   # the number given back
+    place: int
+    state: bytes  # the relay's state as the call leaves it
+    other: bytes  # the entry, or the lent buffer, as the call leaves it
+
+    def to_c(self) -> int:
+        # "C gets one number back: 256 times the place, plus the number given
+        # back."
+        return 256 * self.place + self.number
+
+
+# ---- Settings record -------------------------------------------------------
+
+# "32 bytes, no header, all fields 16-bit big-endian."
 class Field(NamedTuple):
     at: int
     name: str
@@ -19,111 +40,117 @@ class Field(NamedTuple):
 
 FIELDS = (
     Field(0, 'ends N', 2, 6),
-    Field(2, 'slope K, percent', 1, 100),
-    Field(4, 'differential pickup, counts', 1, 42000),
-    Field(6, 'replica impedance real, thousandths', 0, 20000),
-    Field(8, 'replica impedance imaginary, thousandths', 1, 20000),
-    Field(10, 'reach r, thousandths of the replica', 1, 2000),
-    Field(12, 'k real, thousandths', 0, 1000),
-    Field(14, 'k imaginary, thousandths', -500, 500, signed=True),
+    Field(2, 'slope K', 1, 100),
+    Field(4, 'differential pickup', 1, 42000),
+    Field(6, 'replica impedance real', 0, 20000),
+    Field(8, 'replica impedance imaginary', 1, 20000),
+    Field(10, 'reach r', 1, 2000),
+    Field(12, 'k real', 0, 1000),
+    Field(14, 'k imaginary', -500, 500, signed=True),
     Field(16, 'line angle D real', 0, 1000),
     Field(18, 'line angle D imaginary', 0, 1000),
     Field(20, 'forward limit zf', -20000, 20000, signed=True),
     Field(22, 'reverse limit zr', -20000, 20000, signed=True),
-    Field(24, 'pickup of 3I2, counts', 1, 42000),
+    Field(24, 'pickup of 3I2', 1, 42000),
 )
-SPARE = range(26, 32)
-SQUARES = range(998000, 1002000 + 1)  # the sum of squares of the line angle D
-
-
-def value(record: bytes, field: Field) -> int:
-    return int.from_bytes(record[field.at:field.at + 2], 'big', signed=field.signed)
+SPARE = range(26, 31 + 1)              # "26 to 31 | zero bytes | 0"
+SQUARES = range(998000, 1002000 + 1)   # "sum of squares 998000 to 1002000"
 
 
 def first_fault(record: bytes) -> Optional[int]:
-    """The offset of the first fault of a record of 32 bytes; None if there is none. Checks go by offset."""
-    numbers = {field.at: value(record, field) for field in FIELDS}
+    """The offset of the first fault of a record of 32 bytes, or None."""
+    passed = {}  # the fields that have passed their own range, by offset
+    # "Checks go by offset."
     for field in FIELDS:
-        if not field.low <= numbers[field.at] <= field.high:
+        two = record[field.at:field.at + 2]
+        number = int.from_bytes(two, 'big', signed=field.signed)
+        if not field.low <= number <= field.high:
             return field.at
-        # A sum-of-squares fault is at 18, zf not below zr at 22, each found when that offset's own range has passed.
-        if field.at == 18 and numbers[16] ** 2 + numbers[18] ** 2 not in SQUARES:
+        passed[field.at] = number
+        # "A sum-of-squares fault is at 18, zf not below zr at 22, each found
+        # when that offset's own range has passed."
+        if field.at == 18 and passed[16]**2 + passed[18]**2 not in SQUARES:
             return 18
-        if field.at == 22 and not numbers[20] < numbers[22]:
+        if field.at == 22 and not passed[20] < passed[22]:
             return 22
-    # A nonzero spare byte is at its own offset.
+    # "A nonzero spare byte is at its own offset."
     for at in SPARE:
         if record[at] != 0:
             return at
     return None
 
 
-def stored(record: bytes) -> Optional[bytes]:
-    """A stored record that propose would refuse counts as absent."""
-    return record if first_fault(record) is None else None
+def absent(stored: bytes) -> bool:
+    # "A stored record that propose would refuse counts as absent." So do the
+    # zero bytes of a fresh relay: N = 0 is out of range.
+    return first_fault(stored) is not None
 
 
-# The relay's state: 64 bytes, the record in force, then the pending one. All zero bytes are a fresh relay.
-
-STATE = 64
-NOTHING = bytes(RECORD)
-
-
-class Result(NamedTuple):
-    """What a call gives back, the state that it leaves, and the other slice as it leaves it."""
-    number: int
-    place: int
-    state: bytes
-    other: bytes
+def refuse(number: int, place: int, state: bytes, entry: bytes) -> Result:
+    # "Any refused propose or confirm leaves nothing pending and the record in
+    # force unchanged (17 apart: there no relay was lent)."
+    return Result(number, place, state[:RECORD] + NOTHING, entry)
 
 
-def propose(state: bytes, entry: bytes) -> Result:
-    """Propose: 17, then 5, 6. A good record becomes pending; any refusal leaves nothing pending."""
+# ---- Numbers given back ----------------------------------------------------
+
+# "No refusal writes to a lent buffer other than the relay's own state, which
+# changes only as its rules say, and none is given in any other condition."
+# 17, in all three calls: "from C, state slice of another length; before all
+# others, changes nothing".
+
+def propose(state: bytes, other: bytes) -> Result:
+    """The other slice is the entry. "Propose: 5, 6." """
     if len(state) != STATE:
-        return Result(17, 0, state, entry)
+        return Result(17, 0, state, other)
+    if len(other) != RECORD:        # "settings entry not 32 bytes"
+        return refuse(5, 0, state, other)
+    fault = first_fault(other)
+    if fault is not None:           # "a field out of range (propose)"
+        return refuse(6, fault, state, other)
+    # "To propose a good record makes it pending, in place of any earlier
+    # pending one."
+    return Result(0, 0, state[:RECORD] + other, other)
+
+
+def confirm(state: bytes, other: bytes) -> Result:
+    """The other slice is the entry. "Confirm: 5, 7, 8." """
+    if len(state) != STATE:
+        return Result(17, 0, state, other)
+    if len(other) != RECORD:        # "settings entry not 32 bytes"
+        return refuse(5, 0, state, other)
+    pending = state[RECORD:]
+    if absent(pending):             # "nothing pending (confirm)"
+        return refuse(7, 0, state, other)
+    for at in range(RECORD):        # "confirmation differs",
+        if other[at] != pending[at]:    # at the "first differing offset"
+            return refuse(8, at, state, other)
+    # "To confirm with the same 32 bytes puts it in force and leaves nothing
+    # pending."
+    return Result(0, 0, pending + NOTHING, other)
+
+
+def read_back(state: bytes, other: bytes) -> Result:
+    """The other slice is the lent buffer. "Read-back: 1, 3." """
+    if len(state) != STATE:
+        return Result(17, 0, state, other)
     in_force = state[:RECORD]
-    if len(entry) != RECORD:
-        return Result(5, 0, in_force + NOTHING, entry)
-    fault = first_fault(entry)
-    if fault is not None:
-        return Result(6, fault, in_force + NOTHING, entry)
-    return Result(0, 0, in_force + entry, entry)
-
-
-def confirm(state: bytes, entry: bytes) -> Result:
-    """Confirm: 17, then 5, 7, 8. The same 32 bytes come into force; nothing is pending afterwards, done or refused."""
-    if len(state) != STATE:
-        return Result(17, 0, state, entry)
-    in_force, pending = state[:RECORD], stored(state[RECORD:])
-    if len(entry) != RECORD:
-        return Result(5, 0, in_force + NOTHING, entry)
-    if pending is None:
-        return Result(7, 0, in_force + NOTHING, entry)
-    for at in range(RECORD):
-        if entry[at] != pending[at]:
-            return Result(8, at, in_force + NOTHING, entry)
-    return Result(0, 0, entry + NOTHING, entry)
-
-
-def read_back(state: bytes, out: bytes) -> Result:
-    """Read-back: 17, then 1, 3. The record in force is written at the front of out; later bytes stay."""
-    if len(state) != STATE:
-        return Result(17, 0, state, out)
-    in_force = stored(state[:RECORD])
-    if in_force is None:
-        return Result(1, 0, state, out)
-    if len(out) < RECORD:
-        return Result(3, 0, state, out)
-    return Result(0, 0, state, in_force + out[RECORD:])
+    if absent(in_force):            # "no settings in force"
+        return Result(1, 0, state, other)
+    if len(other) < RECORD:         # "room below 32 bytes"
+        return Result(3, 0, state, other)
+    # "Read-back writes the 32 bytes of the record in force there in the same
+    # way": "at the front of the lent buffer; later bytes stay".
+    return Result(0, 0, state, in_force + other[RECORD:])
 
 
 CALLS = {'propose': propose, 'confirm': confirm, 'read_back': read_back}
 
-# Numbers given back: for each call, each number that it can give, and all places that this number can have.
-
-FAULT_PLACES = [field.at for field in FIELDS] + list(SPARE)
+# Each number a call can give, with every place it can have there: 6 at the
+# offset of a field or of a spare byte, 8 at any byte, all others at 0.
+FAULTS = [field.at for field in FIELDS] + list(SPARE)
 ANSWERS = {
-    'propose': {0: [0], 5: [0], 6: FAULT_PLACES, 17: [0]},
+    'propose': {0: [0], 5: [0], 6: FAULTS, 17: [0]},
     'confirm': {0: [0], 5: [0], 7: [0], 8: list(range(RECORD)), 17: [0]},
     'read_back': {0: [0], 1: [0], 3: [0], 17: [0]},
 }
