@@ -2,7 +2,7 @@
 use Prim.Native.Nat.{ℕ, _+_, _*_}
 use mathlib.Core.Path.{_≡_, refl, sym, ap, _∙_}
 use mathlib.Core.List.{List, _++_}
-use mathlib.Core.Bool.{Bool, true, false, cond}
+use mathlib.Core.Bool.{Bool, true, false, false≢true, cond}
 use native.Mathlib.Omega.{arith}
 use borrow.Author.Tests.{eq-eqb, ne-eqb, le-leb, eqb-true}
 use lib.ListN.{length, take, drop}
@@ -15,14 +15,26 @@ use Rattle.lent.specs.declared.Compared.{Compared}
 use Rattle.lent.specs.declared.Compared.the-variants.{Same, Differ}
 use Rattle.lent.specs.Lent.{compared}
 use Rattle.lent.proofs.Differences.{compared-first, compared-same, compared-self}
+use Rattle.settings.specs.declared.Checked.{Checked}
+use Rattle.settings.specs.declared.Checked.the-variants.{Good, Bad}
+use Rattle.settings.specs.Check.{checked}
+use Rattle.settings.proofs.Good.{ranges}
 use Rattle.entry.specs.Pair.{nothing}
 use Rattle.entry.specs.Entry.{ofCompare, proposeAnswer, confirmAnswer}
 use Rattle.entry.proofs.Done.{confirm-done, present-done}
 use Rattle.gorsepetal.specs.State.{stateLength, settingsOf}
-use Rattle.gorsepetal.specs.Calls.{isRelay, verdict, Accepted, standing, Confirmed, readBackAnswer}
-use Rattle.claims.specs.Settings.{GoodComesIntoForce, ConfirmedReadsBack, RefusedProposal, RefusedConfirmation, NoThirdEntry, DiffersAtFirst, RefusedReadBack, NoRelayNoChange}
+use Rattle.gorsepetal.specs.Calls.{isRelay, ofCheck, verdict, Accepted, standing, Confirmed, readBackAnswer}
+use Rattle.claims.specs.Settings.{AcceptedInRange, GoodComesIntoForce, ConfirmedReadsBack, RefusedProposal, RefusedConfirmation, NoThirdEntry, DiffersAtFirst, RefusedReadBack, NoRelayNoChange}
 use Rattle.claims.proofs.Relay.{sized, propose-left, confirm-left}
 use Rattle.claims.proofs.Demand1.{blank}
+
+-- the verdict is done only where the check finds a good record
+found-good : (f : Checked) → ofCheck f ≡ Done → f ≡ Good
+found-good Good t = refl
+found-good (Bad k) t = absurd (false≢true (ap isDone t))
+
+pub accepted-in-range : AcceptedInRange
+accepted-in-range r a = ranges r (found-good (checked r) a)
 
 pub refused-proposal : RefusedProposal
 refused-proposal s e n s₁ l c refused =

@@ -4,9 +4,14 @@ use Prim.Native.Nat.{ℕ, _+_, _*_, _≤_}
 use mathlib.Core.Path.{_≡_}
 use mathlib.Core.List.{List}
 use lib.ListN.{length, take, drop, getD}
+use Rattle.settings.specs.Fields.{Ranges}
 use Rattle.entry.specs.Pair.{recordLength, nothing}
 use Rattle.gorsepetal.specs.State.{stateLength, settingsOf}
 use Rattle.gorsepetal.specs.Calls.{Accepted, Proposed, Confirmed, ReadBack}
+
+-- A good record, one that propose accepts, has every field in its range and its spare bytes zero.
+abbrev pub AcceptedInRange : Type 0
+AcceptedInRange = (r : List ℕ) → Accepted r → Ranges r
 
 -- A good record, proposed and then confirmed with the same bytes, is answered 0 twice and is in force. (So no relay refuses all calls.)
 abbrev pub GoodComesIntoForce : Type 0

@@ -18,8 +18,8 @@ use Rattle.entry.specs.Pair.{Pair, recordLength, nothing, pairAt, withPa
 abbrev pub proposeAnswer : Answer → List ℕ → Answer
 proposeAnswer verdict e = cond (eqb (length e) recordLength) verdict EntryLength
 
--- "To propose a good record makes it pending, in place of any earlier pending one. Any refused propose leaves nothing pending and the
--- record in force unchanged."
+-- "To propose a good record makes it pending, in place of any earlier pending one." "Any refused propose or confirm leaves nothing
+-- pending and the record in force unchanged."
 abbrev pub proposed : Answer → Pair → List ℕ → Pair
 proposed verdict p e = record { force = p .force; pending = ifDone (proposeAnswer verdict e) e nothing }
 
@@ -40,8 +40,7 @@ ofCompare (Differ k) = Differs k
 abbrev pub confirmAnswer : Answer → Pair → List ℕ → Answer
 confirmAnswer stands p e = cond (eqb (length e) recordLength) (ifDone stands (ofCompare (compared (p .pending) e)) stands) EntryLength
 
--- "To confirm with the same 32 bytes puts it in force and leaves nothing pending. Any refused confirm leaves nothing pending and the
--- record in force unchanged."
+-- "To confirm with the same 32 bytes puts it in force and leaves nothing pending." A refused one: as above.
 abbrev pub confirmed : Answer → Pair → List ℕ → Pair
 confirmed stands p e = record { force = ifDone (confirmAnswer stands p e) e (p .force); pending = nothing }
 

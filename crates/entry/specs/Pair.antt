@@ -1,5 +1,5 @@
 -- Document 01, "Settings record": a pair of records, the one in force and the pending one, and where it lies in the relay's state.
-use Prim.Native.Nat.{ℕ, _+_}
+use Prim.Native.Nat.{ℕ, _+_, _*_}
 use mathlib.Core.List.{List, _++_}
 use lib.ListN.{take, drop, replicate}
 use Rattle.lent.specs.Lent.{over}
@@ -9,7 +9,7 @@ abbrev pub recordLength : ℕ
 recordLength = 32
 
 abbrev pub pairLength : ℕ
-pairLength = 64
+pairLength = 2 * recordLength
 
 pub record Pair : Type 0 where
   pub force : List ℕ

@@ -12,7 +12,7 @@ use lent::Compared;
 pub const RECORD_LENGTH: usize = 32;
 
 // The record in force, and then the pending one.
-const PAIR_LENGTH: usize = 64;
+const PAIR_LENGTH: usize = 2 * RECORD_LENGTH;
 
 // Nothing is pending in the pair at an offset.
 fn clear(state: &mut [u8], at: usize)

@@ -12,9 +12,9 @@ pub const STATE_LENGTH: usize = 64;
 // Where the main pair lies in the state: the record in force, the pending one, and what comes after.
 const MAIN: usize = 0;
 
-const PENDING: usize = 32;
+const PENDING: usize = MAIN + RECORD_LENGTH;
 
-const MAIN_END: usize = 64;
+const MAIN_END: usize = PENDING + RECORD_LENGTH;
 
 // What propose answers to a record of 32 bytes.
 fn verdict(r: &[u8]) -> Answer
