@@ -9,7 +9,7 @@ use mir.Val.{SFits, toZ, ofZ}
 use mir.Facts.{toZ-pos}
 use Rattle.whole.specs.Range.{Within}
 use Rattle.whole.proofs.Size.{lit, sub, fit, rd}
-use Rattle.settings.specs.Record.{signed}
+use Rattle.whole.specs.TwosComplement.{signed}
 
 pub low : (v : ℕ) → v < 32768 → toZ w64 v ≡ signed v
 low v h = rw (lt-ltb v 32768 h) (toZ-pos w64 {n = v} (omega arith))

@@ -3,3 +3,4 @@ pub mod Range
 pub mod Round
 pub mod Root
 pub mod Length
+pub mod TwosComplement

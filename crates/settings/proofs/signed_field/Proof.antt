@@ -1,7 +1,7 @@
 -- `settings::signed_field` meets its contract: the two cases of two's complement. Assumes nothing.
 use mathlib.Core.Path.{ap, _∙_}
 use borrow.Author.Needs.{needs}
-use Rattle.settings.specs.Record.{signed}
+use Rattle.whole.specs.TwosComplement.{signed}
 use Rattle.settings.proofs.TwosComplement.{low, high, high-fits}
 use Rattle.settings.proofs.signed_field.Statement.{statement}
 use Rattle.settings.proofs.signed_field.Tie as tie
