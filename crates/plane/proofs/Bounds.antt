@@ -1,0 +1,54 @@
+-- How `Inside` goes through each operation. The bounds are numerals and compute: `inside-wider (inside-times p q) tt`.
+use mathlib.Core.Path.{_≡_}
+use Prim.Native.Nat.{ℕ, _+_, _*_, _/_, _<_}
+use lib.Dec.{T, leb, ltb, ltb→lt}
+use lib.IntN.{ℤ}
+use Rattle.whole.specs.Range.{Within}
+use Rattle.whole.proofs.Size.{neg, add, sub, mul, wider}
+use Rattle.whole.proofs.Rounding.{round-near, round-bound}
+use Rattle.plane.specs.declared.Phasor.{Phasor}
+use Rattle.plane.specs.Plane.{Inside, plus, minus, times, scaled, rounded, minusJ, dot}
+
+pub inside-plus : {a b : ℕ} {p q : Phasor} → Inside a p → Inside b q → Inside (a + b) (plus p q)
+unfolding plus
+inside-plus h k = record { real = add (h .real) (k .real); imag = add (h .imag) (k .imag) }
+
+pub inside-minus : {a b : ℕ} {p q : Phasor} → Inside a p → Inside b q → Inside (a + b) (minus p q)
+unfolding minus
+inside-minus h k = record { real = sub (h .real) (k .real); imag = sub (h .imag) (k .imag) }
+
+pub inside-times : {a b : ℕ} {p q : Phasor} → Inside a p → Inside b q → Inside (a * b + a * b) (times p q)
+unfolding times
+inside-times h k =
+    record {
+      real = sub (mul (h .real) (k .real)) (mul (h .imag) (k .imag));
+      imag = add (mul (h .real) (k .imag)) (mul (h .imag) (k .real));
+    }
+
+pub inside-scaled : {a b : ℕ} {n : ℤ} {p : Phasor} → Within a n → Inside b p → Inside (a * b) (scaled n p)
+unfolding scaled
+inside-scaled h k = record { real = mul h (k .real); imag = mul h (k .imag) }
+
+pub inside-rounded : {b : ℕ} {p : Phasor} (d : ℕ) → T (ltb 0 d) → Inside b p → Inside ((b + d / 2) / d) (rounded d p)
+unfolding rounded
+inside-rounded {p = p} d t h =
+    let above = ltb→lt 0 d t in
+    record {
+      real = round-bound above (round-near d above (p .re)) (h .real);
+      imag = round-bound above (round-near d above (p .im)) (h .imag);
+    }
+
+pub inside-minus-j : {b : ℕ} {p : Phasor} → Inside b p → Inside b (minusJ p)
+unfolding minusJ
+inside-minus-j h = record { real = h .imag; imag = neg (h .real) }
+
+pub within-dot : {a b : ℕ} {p q : Phasor} → Inside a p → Inside b q → Within (a * b + a * b) (dot p q)
+unfolding dot
+within-dot h k = add (mul (h .real) (k .real)) (mul (h .imag) (k .imag))
+
+pub inside-wider : {a b : ℕ} {p : Phasor} → Inside a p → T (leb a b) → Inside b p
+inside-wider h t = record { real = wider (h .real) t; imag = wider (h .imag) t }
+
+-- the bound of an equal number: a call's result is equal to its definition
+pub inside-along : {b : ℕ} {p q : Phasor} → p ≡ q → Inside b q → Inside b p
+inside-along e h = rw e h

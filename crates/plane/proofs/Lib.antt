@@ -1,0 +1,2 @@
+-- Laws of complex numbers that other crates cite.
+pub mod Bounds

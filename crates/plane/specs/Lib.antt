@@ -1,0 +1,2 @@
+-- Complex numbers with whole parts.
+pub mod Plane

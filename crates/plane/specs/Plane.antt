@@ -1,0 +1,51 @@
+-- Complex numbers with whole parts, and what document 01 does with them. Each operation is the textbook's.
+use Prim.Native.Nat.{ℕ}
+use lib.IntN.{ℤ, pos, negℤ, _+ℤ_, _-ℤ_, _*ℤ_}
+use Rattle.whole.specs.Range.{Within}
+use Rattle.whole.specs.Round.{roundBy}
+use Rattle.plane.specs.declared.Phasor.{Phasor}
+
+-- The one way in which a contract bounds a complex number: each component lies within b of zero.
+pub record Inside (b : ℕ) (p : Phasor) : Type 0 where
+  pub real : Within b (p .re)
+  pub imag : Within b (p .im)
+
+-- 0
+abbrev pub zero : Phasor
+zero = record { re = pos 0; im = pos 0 }
+
+-- p + q
+unfoldable pub plus : Phasor → Phasor → Phasor
+plus p q = record { re = p .re +ℤ q .re; im = p .im +ℤ q .im }
+
+-- p - q
+unfoldable pub minus : Phasor → Phasor → Phasor
+minus p q = record { re = p .re -ℤ q .re; im = p .im -ℤ q .im }
+
+-- p q
+unfoldable pub times : Phasor → Phasor → Phasor
+times p q = record { re = p .re *ℤ q .re -ℤ p .im *ℤ q .im; im = p .re *ℤ q .im +ℤ p .im *ℤ q .re }
+
+-- n p, for a whole number n
+unfoldable pub scaled : ℤ → Phasor → Phasor
+scaled n p = record { re = n *ℤ p .re; im = n *ℤ p .im }
+
+-- each component rounded by d
+unfoldable pub rounded : ℕ → Phasor → Phasor
+rounded d p = record { re = roundBy d (p .re); im = roundBy d (p .im) }
+
+-- p*, the conjugate
+abbrev pub conjugate : Phasor → Phasor
+conjugate p = record { re = p .re; im = negℤ (p .im) }
+
+-- -j p
+unfoldable pub minusJ : Phasor → Phasor
+minusJ p = record { re = p .im; im = negℤ (p .re) }
+
+-- Re(p q*)
+unfoldable pub dot : Phasor → Phasor → ℤ
+dot p q = p .re *ℤ q .re +ℤ p .im *ℤ q .im
+
+-- |p|²
+abbrev pub squared : Phasor → ℤ
+squared p = dot p p
