@@ -4,11 +4,18 @@ use lib.IntN.{ℤ, pos, negℤ, _+ℤ_, _-ℤ_, _*ℤ_}
 use Rattle.whole.specs.Range.{Within}
 use Rattle.whole.specs.Round.{roundBy}
 use Rattle.plane.specs.declared.Phasor.{Phasor}
+use Rattle.plane.specs.declared.Phases.{Phases}
 
 -- The one way in which a contract bounds a complex number: each component lies within b of zero.
 pub record Inside (b : ℕ) (p : Phasor) : Type 0 where
   pub real : Within b (p .re)
   pub imag : Within b (p .im)
+
+-- The same of all three phases.
+pub record AllInside (b : ℕ) (v : Phases) : Type 0 where
+  pub inside-a : Inside b (v .a)
+  pub inside-b : Inside b (v .b)
+  pub inside-c : Inside b (v .c)
 
 -- 0
 abbrev pub zero : Phasor

@@ -6,6 +6,8 @@ ghost use Rattle.settings.specs.Record.{fieldAt, signedAt};
 ghost use Rattle.settings.specs.Table.{table};
 ghost use Rattle.settings.specs.Check.{within, withinSigned, holds, place, checked};
 
+pub mod fields; // the fields by name
+
 // One rule of the table. An offset is a u8, so that the byte after it has one too.
 pub enum Rule {
     // the field at an offset, from a least to a greatest number
