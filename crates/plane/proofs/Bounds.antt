@@ -17,13 +17,15 @@ pub inside-minus : {a b : ℕ} {p q : Phasor} → Inside a p → Inside b q → 
 unfolding minus
 inside-minus h k = record { real = sub (h .real) (k .real); imag = sub (h .imag) (k .imag) }
 
-pub inside-times : {a b : ℕ} {p q : Phasor} → Inside a p → Inside b q → Inside (a * b + a * b) (times p q)
+-- a product with a factor whose two components are bounded apart, as those of a and of k are
+pub inside-factor :
+    {a b c : ℕ} {f p : Phasor} → Within a (f .re) → Within b (f .im) → Inside c p → Inside (a * c + b * c) (times f p)
 unfolding times
-inside-times h k =
-    record {
-      real = sub (mul (h .real) (k .real)) (mul (h .imag) (k .imag));
-      imag = add (mul (h .real) (k .imag)) (mul (h .imag) (k .real));
-    }
+inside-factor re im h =
+    record { real = sub (mul re (h .real)) (mul im (h .imag)); imag = add (mul re (h .imag)) (mul im (h .real)) }
+
+pub inside-times : {a b : ℕ} {p q : Phasor} → Inside a p → Inside b q → Inside (a * b + a * b) (times p q)
+inside-times h k = inside-factor (h .real) (h .imag) k
 
 pub inside-scaled : {a b : ℕ} {n : ℤ} {p : Phasor} → Within a n → Inside b p → Inside (a * b) (scaled n p)
 unfolding scaled

@@ -1,2 +1,3 @@
 -- Laws of complex numbers that other crates cite.
 pub mod Bounds
+pub mod Made

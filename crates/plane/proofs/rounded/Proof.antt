@@ -1,9 +1,8 @@
 -- `plane::rounded` meets its contract: both components go through `whole::round_by`. Assumes nothing.
-use mathlib.Core.Path.{_∙_}
 use borrow.Author.Needs.{needs}
-use Rattle.whole.proofs.Machine.{back}
 use Rattle.whole.proofs.Size.{rd}
 use Rattle.plane.specs.Plane.{rounded}
+use Rattle.plane.proofs.Made.{made}
 use Rattle.plane.proofs.rounded.Statement.{statement}
 use Rattle.plane.proofs.rounded.Tie as tie
 
@@ -18,9 +17,9 @@ unfolding rounded
 returns c =
     let h = c .before .before .before .before .pre in
     let first = c .before .before .round-by in
-    let re = back (first .result) (first .ok) ∙ (simp (rd (h .1 .real) tt, rd (h .2) tt) at (first .ensures)) in
-    let im = back (c .round-by2 .result) (c .round-by2 .ok) ∙ (simp (rd (h .1 .imag) tt, rd (h .2) tt) at (c .round-by2 .ensures)) in
-    λ i. record { re = re i; im = im i }
+    let re = simp (rd (h .1 .real) tt, rd (h .2) tt) at (first .ensures) in
+    let im = simp (rd (h .1 .imag) tt, rd (h .2) tt) at (c .round-by2 .ensures) in
+    made _ (first .ok) (c .round-by2 .ok) re im
 
 pub rounded-spec : {M : Type 1} → statement M
 rounded-spec = tie.close (tie.spec round-by-requires round-by-requires-2 returns)

@@ -1,0 +1,20 @@
+-- `distance::line::angle` meets its contract: D is its two fields. Assumes nothing.
+use borrow.Author.Needs.{needs}
+use Rattle.plane.proofs.Made.{made}
+use Rattle.distance.proofs.line.angle.Statement.{statement}
+use Rattle.distance.proofs.line.angle.Tie as tie
+
+angle-real-requires : tie.Need-angle-real-requires
+angle-real-requires c κs = search needs
+
+angle-imaginary-requires : tie.Need-angle-imaginary-requires
+angle-imaginary-requires c κs = search needs
+
+returns : tie.Need-returns
+returns c =
+    let re = c .before .angle-real in
+    let im = c .angle-imaginary in
+    made _ (re .ok) (im .ok) (re .ensures) (im .ensures)
+
+pub angle-spec : {M : Type 1} → statement M
+angle-spec = tie.close (tie.spec angle-real-requires angle-imaginary-requires returns)

@@ -1,0 +1,20 @@
+-- `distance::line::compensation` meets its contract: k is its two fields. Assumes nothing.
+use borrow.Author.Needs.{needs}
+use Rattle.plane.proofs.Made.{made}
+use Rattle.distance.proofs.line.compensation.Statement.{statement}
+use Rattle.distance.proofs.line.compensation.Tie as tie
+
+k-real-requires : tie.Need-k-real-requires
+k-real-requires c κs = search needs
+
+k-imaginary-requires : tie.Need-k-imaginary-requires
+k-imaginary-requires c κs = search needs
+
+returns : tie.Need-returns
+returns c =
+    let re = c .before .k-real in
+    let im = c .k-imaginary in
+    made _ (re .ok) (im .ok) (re .ensures) (im .ensures)
+
+pub compensation-spec : {M : Type 1} → statement M
+compensation-spec = tie.close (tie.spec k-real-requires k-imaginary-requires returns)

@@ -1,0 +1,35 @@
+-- Document 01, "Sequence quantities and direction" (source document 002, the negative-sequence element): which way the fault is.
+use Prim.Native.Nat.{ℕ}
+use mathlib.Core.List.{List}
+use mathlib.Core.Bool.{Bool, cond}
+use lib.IntN.{ℤ, pos, _*ℤ_}
+use lib.Signed.{ltZ, leZ}
+use Rattle.settings.specs.Fields.{forwardLimit, reverseLimit, negativePickup}
+use Rattle.plane.specs.declared.Phasor.{Phasor}
+use Rattle.plane.specs.Plane.{times, dot, squared}
+use Rattle.distance.specs.declared.direction.Direction.{Direction}
+use Rattle.distance.specs.declared.direction.Direction.the-variants.{None, Forward, Reverse}
+use Rattle.distance.specs.Line.{angle}
+
+-- 3I2 reaches its pickup: |3I2|² is not "below the square of its pickup"
+unfoldable pub reachesPickup : ℤ → Phasor → Bool
+reachesPickup pickup i2 = leZ (pickup *ℤ pickup) (squared i2)
+
+-- "T = Re[3V2 (D 3I2)*]"
+unfoldable pub torque : Phasor → Phasor → Phasor → ℤ
+torque d v2 i2 = dot v2 (times d i2)
+
+-- "forward if T < zf |3I2|², reverse if T > zr |3I2|², else none", for T and for |3I2|²
+unfoldable pub sideOf : ℤ → ℤ → ℤ → ℤ → Direction
+sideOf zf zr t s = cond (ltZ t (zf *ℤ s)) Forward (cond (ltZ (zr *ℤ s) t) Reverse None)
+
+-- The direction by a settings record, from 3V2 and 3I2
+unfoldable pub directionOf : List ℕ → Phasor → Phasor → Direction
+directionOf s v2 i2 =
+    cond (reachesPickup (pos (negativePickup s)) i2) (sideOf (forwardLimit s) (reverseLimit s) (torque (angle s) v2 i2) (squared i2)) None
+
+-- Document 01, "Decision record": "0 none, 1 forward, 2 reverse"
+abbrev pub directionNumber : Direction → ℕ
+directionNumber None = 0
+directionNumber Forward = 1
+directionNumber Reverse = 2

@@ -1,0 +1,59 @@
+// Sequence quantities, source document 002: 3V1, 3V2 and 3I2, formed at scale 16384 and rounded by it.
+ghost use mathlib.Core.Path.{_≡_};
+ghost use Prim.Native.Nat.{_^_};
+ghost use Rattle.plane.specs.Plane.{Inside, AllInside};
+ghost use Rattle.distance.specs.Sequence.{a, a², turned, sequence, positive, negative};
+use plane::Phases;
+use plane::Phasor;
+
+// The scale at which a is taken.
+const SCALE: i64 = 16384;
+
+// a, a third of a turn forward.
+pub fn a() -> Phasor
+    ensures { λ r. ⌜ r ≡ a ⌝ }
+{
+    Phasor { re: -8192, im: 14189 }
+}
+
+// a², its conjugate.
+pub fn a2() -> Phasor
+    ensures { λ r. ⌜ r ≡ a² ⌝ }
+{
+    Phasor { re: -8192, im: -14189 }
+}
+
+// f p for f = a or a², rounded.
+pub fn turned(f: Phasor, p: Phasor) -> Phasor
+    requires { ⌜ Inside (2 ^ 30) f × Inside (2 ^ 30) p ⌝ }
+    ensures { λ r. ⌜ r ≡ turned f p ⌝ }
+{
+    plane::rounded(plane::times(f, p), SCALE)
+}
+
+// xa + f xb + g xc, rounded.
+fn sequence(f: Phasor, g: Phasor, x: Phases) -> Phasor
+    requires { ⌜ Inside (2 ^ 29) f × Inside (2 ^ 29) g × AllInside (2 ^ 29) x ⌝ }
+    ensures { λ r. ⌜ r ≡ sequence f g x ⌝ }
+{
+    let first = plane::scaled(SCALE, x.a);
+    let second = plane::times(f, x.b);
+    let third = plane::times(g, x.c);
+    plane::rounded(plane::plus(plane::plus(first, second), third), SCALE)
+}
+
+// 3V1.
+pub fn positive(v: Phases) -> Phasor
+    requires { ⌜ AllInside 42000 v ⌝ }
+    ensures { λ r. ⌜ (r ≡ positive v) × Inside 160000 r ⌝ }
+{
+    sequence(a(), a2(), v)
+}
+
+// 3V2 or 3I2.
+pub fn negative(i: Phases) -> Phasor
+    requires { ⌜ AllInside 42000 i ⌝ }
+    ensures { λ r. ⌜ (r ≡ negative i) × Inside 160000 r ⌝ }
+{
+    sequence(a2(), a(), i)
+}

@@ -1,0 +1,129 @@
+-- `samples::first_missing` meets its contract. The invariant of both loops: every number passed is present; so the place at which the
+-- search leaves is the first. Assumes nothing.
+use Prim.Native.Nat.{ℕ, _+_, _*_, _-_, _≤_, _<_}
+use mathlib.Core.Path.{_≡_, sym, ap, _∙_}
+use mathlib.Core.List.{List}
+use native.Mathlib.Omega.{arith}
+use borrow.Author.Count.{below-more}
+use borrow.Author.Needs.{needs}
+use denote.Ref.{now}
+use lib.IntN.{ℤ}
+use lib.ListN.{length}
+use mir.Syntax.{w16}
+use mir.Val.{toZ, ofZ}
+use mir.Facts.{toZ-ofZ}
+use Rattle.samples.specs.declared.Found.the-variants.{Nothing, At}
+use Rattle.samples.specs.Window.{frames}
+use Rattle.samples.specs.Order.{Missing, Present}
+use Rattle.samples.proofs.Missing.{earlier, is-first}
+use Rattle.samples.proofs.first_missing.Statement.{statement}
+use Rattle.samples.proofs.first_missing.Tie as tie
+
+-- the same count, said otherwise
+present-at : (w : List ℤ) {m n : ℕ} → m ≡ n → Present w m → Present w n
+present-at w e h = rw (← e) h
+
+abbrev Inv-loop : tie.InvT-loop
+Inv-loop window channels found₀ f c₀ found c = (c ≤ channels) × (found ≡ Nothing) × Present window (f * channels + c)
+
+abbrev μ-loop : tie.MeasureT-loop
+μ-loop window channels found₀ f c₀ found c = channels - c
+
+abbrev Inv-search : tie.InvT-search
+Inv-search window channels found₀ f₀ found f = (f ≤ frames) × (found ≡ Nothing) × Present window (f * channels)
+
+abbrev μ-search : tie.MeasureT-search
+μ-search window channels found₀ f₀ found f = frames - f
+
+search-holds : tie.Need-search-holds Inv-loop μ-loop Inv-search μ-search
+search-holds c = search needs
+
+loop-holds : tie.Need-loop-holds Inv-loop μ-loop Inv-search μ-search
+loop-holds c =
+    let s = c .before in
+    (omega arith, s .search .inv .1, present-at (now (s .before .args .window)) (omega arith) (s .search .inv .2))
+
+-- the place of a channel lies in the window
+inside :
+    (c : tie.In-loop Inv-loop μ-loop Inv-search μ-search) →
+    c .before .before .before .search .f * c .before .before .before .before .args .channels + c .before .loop .c < length (now (c .before .before .before .before .args .window))
+inside c =
+    let s = c .before .before .before in
+    omega (arith, s .before .pre, earlier (s .before .args .channels) (s .search .f) (c .before .loop .c) frames (omega arith) (omega arith))
+
+mul-at : tie.Need-mul-at Inv-loop μ-loop Inv-search μ-search
+mul-at c = omega (arith, inside c)
+
+add-at : tie.Need-add-at Inv-loop μ-loop Inv-search μ-search
+add-at c = omega (arith, inside c)
+
+mul-x : tie.Need-mul-x Inv-loop μ-loop Inv-search μ-search
+mul-x c = omega (arith, inside c)
+
+shared-slice-copy-out-x : tie.Need-shared-slice-copy-out-x Inv-loop μ-loop Inv-search μ-search
+shared-slice-copy-out-x c = omega (arith, inside c)
+
+add-c : tie.Need-add-c Inv-loop μ-loop Inv-search μ-search
+add-c c = search needs
+
+loop-less : tie.Need-loop-less Inv-loop μ-loop Inv-search μ-search
+loop-less c = search needs
+
+loop-again : tie.Need-loop-again Inv-loop μ-loop Inv-search μ-search
+loop-again c =
+    let l = c .before .before .before in
+    let s = l .before .before in
+    let w : List ℤ = now (s .before .args .window) in (
+      omega arith,
+      l .loop .inv .1,
+      present-at w (omega arith) (below-more (λ k. Missing w k → ⊥) (s .search .f * s .before .args .channels + l .loop .c) (l .loop .inv .2) (λ m. c .if1 .left (ap (ofZ w16) m))),
+    )
+
+add-f : tie.Need-add-f Inv-loop μ-loop Inv-search μ-search
+add-f c = search needs
+
+search-less : tie.Need-search-less Inv-loop μ-loop Inv-search μ-search
+search-less c = search needs
+
+search-again : tie.Need-search-again Inv-loop μ-loop Inv-search μ-search
+search-again c =
+    let l = c .before in
+    let s = l .before .before in
+    (omega arith, l .loop .inv .1, present-at (now (s .before .args .window)) (omega arith) (l .loop .inv .2))
+
+returns : tie.Need-returns Inv-loop μ-loop Inv-search μ-search
+returns c =
+    let s = c .before in
+    let done : s .search .f ≡ frames = omega arith in
+    let w : List ℤ = now (s .before .args .window) in
+    s .search .inv .1 ∙ is-first w Nothing (present-at w (rw done (sym (s .before .pre))) (s .search .inv .2))
+
+returns-2 : tie.Need-returns-2 Inv-loop μ-loop Inv-search μ-search
+returns-2 c =
+    let l = c .before .before .before in
+    let s = l .before .before in
+    is-first (now (s .before .args .window)) (At (s .search .f * s .before .args .channels + l .loop .c))
+    (inside (c .before .before), sym (toZ-ofZ (record { sfits = c .before .x .given })) ∙ ap (toZ w16) (c .if1 .taken), l .loop .inv .2)
+
+pub first-missing-spec : {M : Type 1} → statement M
+first-missing-spec =
+    tie.close
+    (tie.spec
+    Inv-loop
+    μ-loop
+    Inv-search
+    μ-search
+    search-holds
+    loop-holds
+    mul-at
+    add-at
+    mul-x
+    shared-slice-copy-out-x
+    add-c
+    loop-less
+    loop-again
+    add-f
+    search-less
+    search-again
+    returns
+    returns-2)
