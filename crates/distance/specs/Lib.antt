@@ -3,3 +3,4 @@ pub mod Sequence
 pub mod Line
 pub mod Direction
 pub mod Mho
+pub mod Laws

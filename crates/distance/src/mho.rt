@@ -34,7 +34,10 @@ fn residual(k: Phasor, i: Phases) -> Phasor
     requires { ⌜ Inside (2 ^ 29) k × AllInside 42000 i ⌝ }
     ensures { λ r. ⌜ r ≡ residual k i ⌝ }
 {
-    plane::rounded(plane::times(k, plane::plus(plane::plus(i.a, i.b), i.c)), 1000)
+    plane::rounded(
+        plane::times(k, plane::plus(plane::plus(i.a, i.b), i.c)),
+        1000,
+    )
 }
 
 // Whether a ground loop asserts: its phase's voltage and current, the residual and P.
@@ -50,7 +53,13 @@ fn phase(z: Phasor, r: i64, v: Phasor, w: Phasor, i: Phasor, j: Phasor, p: Phaso
     requires { ⌜ Inside 20000 z × Within 2000 r × Inside 42000 v × Inside 42000 w × Inside 42000 i × Inside 42000 j × Inside 220000 p ⌝ }
     ensures { λ x. ⌜ x ≡ asserts z r (phase v w i j p) ⌝ }
 {
-    asserts(z, r, plane::minus(v, w), plane::minus(i, j), plane::minus_j(p))
+    asserts(
+        z,
+        r,
+        plane::minus(v, w),
+        plane::minus(i, j),
+        plane::minus_j(p),
+    )
 }
 
 // The bits of six loops: AG 1, BG 2, CG 4, AB 8, BC 16, CA 32.
@@ -61,7 +70,16 @@ fn bits(ag: bool, bg: bool, cg: bool, ab: bool, bc: bool, ca: bool) -> u8
 }
 
 // The bits of the six loops at reach r, from the voltages and currents of end 1, the residual, P, aP and a²P.
-fn six(z: Phasor, r: i64, v: Phases, i: Phases, kr: Phasor, p: Phasor, ap: Phasor, a2p: Phasor) -> u8
+fn six(
+    z: Phasor,
+    r: i64,
+    v: Phases,
+    i: Phases,
+    kr: Phasor,
+    p: Phasor,
+    ap: Phasor,
+    a2p: Phasor,
+) -> u8
     requires { ⌜ Inside 20000 z × Within 2000 r × AllInside 42000 v × AllInside 42000 i × Inside 189000 kr × Inside 220000 p × Inside 220000 ap × Inside 220000 a2p ⌝ }
     ensures { λ x. ⌜ x ≡ bits (asserting z r (sixOf v i kr p ap a2p)) ⌝ }
 {

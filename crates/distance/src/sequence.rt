@@ -13,14 +13,20 @@ const SCALE: i64 = 16384;
 pub fn a() -> Phasor
     ensures { λ r. ⌜ r ≡ a ⌝ }
 {
-    Phasor { re: -8192, im: 14189 }
+    Phasor {
+        re: -8192,
+        im: 14189,
+    }
 }
 
 // a², its conjugate.
 pub fn a2() -> Phasor
     ensures { λ r. ⌜ r ≡ a² ⌝ }
 {
-    Phasor { re: -8192, im: -14189 }
+    Phasor {
+        re: -8192,
+        im: -14189,
+    }
 }
 
 // f p for f = a or a², rounded.

@@ -1,3 +1,4 @@
 -- Laws of complex numbers that other crates cite.
 pub mod Bounds
 pub mod Made
+pub mod Laws

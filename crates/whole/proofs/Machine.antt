@@ -1,6 +1,6 @@
 -- What operations on i64 give, as facts about the numbers: tests, the quotient toward zero, and -1 - x, which always fits.
-use mathlib.Core.Path.{_≡_}
-use mathlib.Core.Bool.{true, false}
+use mathlib.Core.Path.{_≡_, refl}
+use mathlib.Core.Bool.{Bool, true, false}
 use Prim.Native.Nat.{ℕ, zero, suc, _+_, _-_, _/_, _^_, _≤_, _<_}
 use native.Mathlib.Nat.{div-le-self}
 use native.Mathlib.Numerals.{add-one}
@@ -8,6 +8,7 @@ use native.Mathlib.Omega.{arith}
 use lib.Dec.{T}
 use lib.IntN.{ℤ, pos, negsuc, negℤ, natAbs, _-ℤ_}
 use lib.Signed.{_≤ℤ_, _<ℤ_, leZ, ltZ, ltZ-no, leZ-yes, ltZ-yes, mag, nonNeg, quotZ}
+use denote.Floats.{is-true}
 use mir.Syntax.{w64}
 use mir.Val.{SFits, toZ, ofZ}
 use mir.Facts.{toZ-ofZ}
@@ -31,6 +32,20 @@ le-true e = leZ-yes (rw e tt)
 
 pub le-false : {x y : ℤ} → leZ x y ≡ false → y <ℤ x
 le-false {x} {y} e = <-unless y x (λ h. rw e at (h .le))
+
+-- and back: what is known of the numbers decides the test
+pub true-lt : {x y : ℤ} → x <ℤ y → ltZ x y ≡ true
+true-lt h = is-true _ (h .lt)
+
+pub false-lt : {x y : ℤ} → (x <ℤ y → ⊥) → ltZ x y ≡ false
+false-lt {x} {y} h = by-test (ltZ x y) refl
+  where
+    by-test : (b : Bool) → ltZ x y ≡ b → ltZ x y ≡ false
+    by-test true e = absurd (h (lt-true e))
+    by-test false e = e
+
+pub true-le : {x y : ℤ} → x ≤ℤ y → leZ x y ≡ true
+true-le h = is-true _ (h .le)
 
 -- ---- a quotient toward zero is no larger than the dividend
 

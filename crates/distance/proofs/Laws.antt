@@ -1,0 +1,127 @@
+-- The statements of specs/Laws.antt, proved.
+use mathlib.Core.Path.{_≡_, refl, sym, ap, _∙_}
+use mathlib.Core.Bool.{Bool, true, false, cond, true≢false}
+use mathlib.Core.List.{List, [], _∷_}
+use Prim.Native.Nat.{ℕ}
+use lib.Dec.{T, eqb, eqb-refl}
+use lib.IntN.{ℤ, pos, _*ℤ_}
+use lib.Signed.{_≤ℤ_, _<ℤ_, ltZ, leZ}
+use Rattle.whole.specs.Round.{roundBy}
+use Rattle.whole.specs.Length.{All}
+use Rattle.whole.proofs.Certificate.{quo, le!, false!, g-le, g-lt, g-num, _⊞_, _⊠_}
+use Rattle.whole.proofs.Order.{≤-trans}
+use Rattle.whole.proofs.Machine.{lt-true, le-true, true-lt, false-lt, true-le}
+use Rattle.settings.specs.Fields.{forwardLimit, reverseLimit, negativePickup}
+use Rattle.plane.specs.declared.Phasor.{Phasor}
+use Rattle.plane.specs.declared.Phases.{Phases}
+use Rattle.plane.specs.Plane.{zero, times, rounded, minusJ, dot, squared}
+use Rattle.plane.proofs.Laws.{squared-nonneg, dot-zero, times-zero}
+use Rattle.distance.specs.declared.direction.Direction.{Direction}
+use Rattle.distance.specs.declared.direction.Direction.the-variants.{None, Forward, Reverse}
+use Rattle.distance.specs.Sequence.{a, a², scale, turned, positive}
+use Rattle.distance.specs.Line.{angle}
+use Rattle.distance.specs.Direction.{reachesPickup, torque, sideOf, directionOf, directionNumber}
+use Rattle.distance.specs.Mho.{Loop, mho, asserts, residual, ground, phase, loops, asserting, bits, loopBits}
+use Rattle.distance.specs.Laws.{Exactly, numerator, denominator, MhoRule, LargerReach, NoPolarising, NoPositive, NeverBoth, ForwardRule, ReverseRule}
+
+-- ---- the mho rule
+
+-- what the rule's answer tells, over n and m
+mho-means : (r n m : ℤ) → Exactly (mho r n m ≡ true) ((pos 0 <ℤ m) × ((pos 1000000 *ℤ n) ≤ℤ (r *ℤ m)))
+unfolding mho
+mho-means r n m = (by-sign (ltZ (pos 0) m) refl, λ h. rw (true-lt (h .0)) (true-le (h .1)))
+  where
+    by-sign : (b : Bool) → ltZ (pos 0) m ≡ b → cond b (leZ (pos 1000000 *ℤ n) (r *ℤ m)) false ≡ true → (pos 0 <ℤ m) × ((pos 1000000 *ℤ n) ≤ℤ (r *ℤ m))
+    by-sign true t e = (lt-true t, le-true e)
+    by-sign false t e = absurd (true≢false (sym e))
+
+pub mho-rule : MhoRule
+unfolding asserts
+mho-rule z r l = mho-means r (numerator l) (denominator z l)
+
+pub larger-reach : LargerReach
+larger-reach z q r l h e =
+    let reached = mho-rule z q l .0 e in
+    let m = denominator z l in
+    let further : (q *ℤ m) ≤ℤ (r *ℤ m) = le! (q ∷ r ∷ m ∷ []) (g-le h ⊠ (g-lt (reached .0) ⊞ g-num 1)) (search quo depth 40) tt in
+    mho-rule z r l .1 (reached .0, ≤-trans (reached .1) further)
+
+pub no-polarising : NoPolarising
+unfolding asserts mho
+no-polarising z r l e = rw (e, dot-zero (times z (l .i)))
+
+-- none of a list asserts, so no bit is set
+none-asserts : (z : Phasor) (r : ℤ) (ls : List Loop) → All (λ l. l .vp ≡ zero) ls → bits (asserting z r ls) ≡ 0
+none-asserts z r [] h = refl
+none-asserts z r (l ∷ ls) h = rw (no-polarising z r l (h .0), none-asserts z r ls (h .1))
+
+-- aP and a²P of 0
+turned-zero : (f : Phasor) → turned f zero ≡ zero
+unfolding turned rounded roundBy
+turned-zero f = rw (times-zero f)
+
+pub no-positive : NoPositive
+unfolding loopBits ground phase minusJ
+no-positive z k r v i e =
+    let ap : turned a (positive v) ≡ zero = rw e (turned-zero a) in
+    let a²p : turned a² (positive v) ≡ zero = rw e (turned-zero a²) in
+    none-asserts z r (loops k v i) (e, (a²p, (ap, (turn ap, (turn e, (turn a²p, tt))))))
+  where
+    turn : {p : Phasor} → p ≡ zero → minusJ p ≡ zero
+    turn h = rw h
+
+-- ---- direction
+
+pub never-both : NeverBoth
+never-both s v2 i2 h f g =
+    let zf = forwardLimit s in
+    let zr = reverseLimit s in
+    let t = torque (angle s) v2 i2 in
+    let q = squared i2 in
+    let q-least = squared-nonneg i2 in
+    false! (zf ∷ zr ∷ t ∷ q ∷ []) (g-lt f ⊞ g-lt g ⊞ g-lt h ⊠ q-least ⊞ q-least ⊞ g-num 1) (search quo depth 40) tt
+
+-- the direction by its three tests
+abbrev by-tests : Bool → Bool → Bool → Direction
+by-tests reaches forward reverse = cond reaches (cond forward Forward (cond reverse Reverse None)) None
+
+-- two directions with different numbers are not the same
+apart : {d e : Direction} → d ≡ e → T (eqb (directionNumber d) (directionNumber e))
+apart {d} h = rw (← h) (eqb-refl (directionNumber d))
+
+is-forward : (b c d : Bool) → by-tests b c d ≡ Forward → (b ≡ true) × (c ≡ true)
+is-forward true true d e = (refl, refl)
+is-forward true false true e = absurd (apart e)
+is-forward true false false e = absurd (apart e)
+is-forward false c d e = absurd (apart e)
+
+is-reverse : (b c d : Bool) → by-tests b c d ≡ Reverse → (b ≡ true) × (d ≡ true)
+is-reverse true true d e = absurd (apart e)
+is-reverse true false true e = (refl, refl)
+is-reverse true false false e = absurd (apart e)
+is-reverse false c d e = absurd (apart e)
+
+-- the three tests
+module _ (s : List ℕ) (v2 i2 : Phasor) where
+  abbrev reaches : Bool
+  reaches = reachesPickup (pos (negativePickup s)) i2
+
+  abbrev forward : Bool
+  forward = ltZ (torque (angle s) v2 i2) (forwardLimit s *ℤ squared i2)
+
+  abbrev reverse : Bool
+  reverse = ltZ (reverseLimit s *ℤ squared i2) (torque (angle s) v2 i2)
+
+pub forward-rule : ForwardRule
+unfolding directionOf sideOf reachesPickup
+forward-rule s v2 i2 = (
+  λ e. (let h = is-forward (reaches s v2 i2) (forward s v2 i2) (reverse s v2 i2) e in (le-true (h .0), lt-true (h .1))),
+  λ h. rw (true-le (h .0), true-lt (h .1)),
+)
+
+pub reverse-rule : ReverseRule
+unfolding directionOf sideOf reachesPickup
+reverse-rule s v2 i2 limits = (
+  λ e. (let h = is-reverse (reaches s v2 i2) (forward s v2 i2) (reverse s v2 i2) e in (le-true (h .0), lt-true (h .1))),
+  λ h. rw (true-le (h .0), false-lt (λ f. never-both s v2 i2 limits f (h .1)), true-lt (h .1)),
+)

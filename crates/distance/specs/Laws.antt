@@ -1,0 +1,76 @@
+-- What a reader will look for in the direction and in the mho rule, as statements. proofs/Laws.antt proves each.
+use mathlib.Core.Path.{_≡_}
+use mathlib.Core.Bool.{true, false}
+use mathlib.Core.List.{List}
+use Prim.Native.Nat.{ℕ}
+use lib.IntN.{ℤ, pos, _*ℤ_}
+use lib.Signed.{_≤ℤ_, _<ℤ_}
+use Rattle.settings.specs.Fields.{forwardLimit, reverseLimit, negativePickup}
+use Rattle.plane.specs.declared.Phasor.{Phasor}
+use Rattle.plane.specs.declared.Phases.{Phases}
+use Rattle.plane.specs.Plane as plane
+use Rattle.distance.specs.declared.direction.Direction.the-variants.{Forward, Reverse}
+use Rattle.distance.specs.Sequence.{positive}
+use Rattle.distance.specs.Line.{angle}
+use Rattle.distance.specs.Direction.{reachesPickup, torque, directionOf}
+use Rattle.distance.specs.Mho.{Loop, asserts, loopBits}
+
+-- the one holds exactly when the other does
+abbrev pub Exactly : Type 0 → Type 0 → Type 0
+Exactly A B = (A → B) × (B → A)
+
+-- ---- the mho rule
+
+-- n and m of a loop
+abbrev pub numerator : Loop → ℤ
+numerator l = plane.dot (l .v) (l .vp)
+
+abbrev pub denominator : Phasor → Loop → ℤ
+denominator z l = plane.dot (plane.times z (l .i)) (l .vp)
+
+-- The denominator is positive and the reach, n over m, is at most the setting: "m > 0 and 1000000 n <= r m"
+abbrev pub Within-reach : Phasor → ℤ → Loop → Type 0
+Within-reach z r l = (pos 0 <ℤ denominator z l) × ((pos 1000000 *ℤ numerator l) ≤ℤ (r *ℤ denominator z l))
+
+-- Demand 2 of a loop
+abbrev pub MhoRule : Type 0
+MhoRule = (z : Phasor) (r : ℤ) (l : Loop) → Exactly (asserts z r l ≡ true) (Within-reach z r l)
+
+-- A loop that asserts at a reach asserts at every larger one.
+abbrev pub LargerReach : Type 0
+LargerReach = (z : Phasor) (q r : ℤ) (l : Loop) → q ≤ℤ r → asserts z q l ≡ true → asserts z r l ≡ true
+
+-- "Vp=0: no loop asserts."
+abbrev pub NoPolarising : Type 0
+NoPolarising = (z : Phasor) (r : ℤ) (l : Loop) → l .vp ≡ plane.zero → asserts z r l ≡ false
+
+-- Nor does one of the six where 3V1 = 0.
+abbrev pub NoPositive : Type 0
+NoPositive = (z k : Phasor) (r : ℤ) (v i : Phases) → positive v ≡ plane.zero → loopBits z k r v i ≡ 0
+
+-- ---- direction
+
+-- 3I2 reaches its pickup
+abbrev pub Reaches : List ℕ → Phasor → Type 0
+Reaches s i2 = (pos (negativePickup s) *ℤ pos (negativePickup s)) ≤ℤ plane.squared i2
+
+-- T < zf |3I2|²
+abbrev pub BelowForward : List ℕ → Phasor → Phasor → Type 0
+BelowForward s v2 i2 = torque (angle s) v2 i2 <ℤ (forwardLimit s *ℤ plane.squared i2)
+
+-- T > zr |3I2|²
+abbrev pub AboveReverse : List ℕ → Phasor → Phasor → Type 0
+AboveReverse s v2 i2 = (reverseLimit s *ℤ plane.squared i2) <ℤ torque (angle s) v2 i2
+
+-- With zf < zr it is never both.
+abbrev pub NeverBoth : Type 0
+NeverBoth = (s : List ℕ) (v2 i2 : Phasor) → forwardLimit s <ℤ reverseLimit s → BelowForward s v2 i2 → AboveReverse s v2 i2 → ⊥
+
+-- So each direction has its own condition, whichever is tested first.
+abbrev pub ForwardRule : Type 0
+ForwardRule = (s : List ℕ) (v2 i2 : Phasor) → Exactly (directionOf s v2 i2 ≡ Forward) (Reaches s i2 × BelowForward s v2 i2)
+
+abbrev pub ReverseRule : Type 0
+ReverseRule =
+    (s : List ℕ) (v2 i2 : Phasor) → forwardLimit s <ℤ reverseLimit s →
+    Exactly (directionOf s v2 i2 ≡ Reverse) (Reaches s i2 × AboveReverse s v2 i2)
