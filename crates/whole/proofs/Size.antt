@@ -1,6 +1,6 @@
 -- How large a whole number is, and how `Within` goes through sums, differences, products and quotients.
 -- The bounds are numerals and compute, so that `fit (add (mul p q) (mul r s)) tt` shows that a sum of products fits an i64.
-use mathlib.Core.Path.{_≡_, refl}
+use mathlib.Core.Path.{_≡_, refl, _∙_}
 use mathlib.Core.Bool.{Bool, true, _&&_}
 use mathlib.Core.List.{List, [], _∷_}
 use Prim.Native.Nat.{ℕ, zero, suc, _+_, _*_, _/_, _^_, _≤_, _<_, zero-le}
@@ -10,7 +10,7 @@ use lib.Dec.{T, leb, ltb, leb→le, ltb→lt}
 use lib.IntN.{ℤ, pos, negsuc, negℤ, natAbs, _+ℤ_, _-ℤ_, _*ℤ_}
 use lib.ListN.{getD}
 use lib.Signed.{_≤ℤ_, mag, natAbs-le, quotZ}
-use mir.Syntax.{Width, w64}
+use mir.Syntax.{Width, w16, w64}
 use mir.Val.{SFits, hbits, toZ, ofZ}
 use mir.Facts.{toZ-ofZ, and-yes}
 use Rattle.whole.specs.Range.{Within}
@@ -108,6 +108,13 @@ rd p t = toZ-ofZ (fit p t)
 -- a number that fits a width is bounded by it
 pub fitted : {w : Width} {z : ℤ} → SFits w z → Within (2 ^ hbits w) z
 fitted {z = z} f = record { size = natAbs-le z (f .sfits) }
+
+-- an i16 taken as an i64: it fits, and is the same number
+pub widened : {z : ℤ} → SFits w16 z → SFits w64 (toZ w16 (ofZ w16 z))
+widened f = simp (toZ-ofZ f) (fit (fitted f) tt)
+
+pub widened-is : {z : ℤ} → SFits w16 z → toZ w64 (ofZ w64 (toZ w16 (ofZ w16 z))) ≡ z
+widened-is f = toZ-ofZ (widened f) ∙ toZ-ofZ f
 
 -- ---- a table: every number of a list within b, by one test that computes
 

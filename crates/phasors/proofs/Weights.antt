@@ -1,0 +1,94 @@
+-- The sums sample by sample, and how large they get: each sample, at most 32768 in size, adds at most 32768 times its coefficients.
+-- So the weights of a table bound the sums, and with the divisor the phasor, whatever is measured.
+use mathlib.Core.Path.{_≡_, refl, sym, ap, _∙_}
+use mathlib.Core.List.{List}
+use Prim.Native.Nat.{ℕ, _+_, _*_, _/_, _^_, _≤_}
+use native.Mathlib.Numerals.{add-one}
+use native.Mathlib.Omega.{arith}
+use lib.Dec.{T, leb, ltb}
+use lib.IntN.{ℤ, pos, natAbs, _+ℤ_}
+use lib.ListN.{length}
+use Rattle.whole.specs.Range.{Within}
+use Rattle.whole.proofs.Size.{neg, add, sub, mul, lit}
+use Rattle.plane.specs.declared.Phasor.{Phasor}
+use Rattle.plane.specs.Plane.{Inside, zero, rounded}
+use Rattle.plane.proofs.Bounds.{inside-rounded, inside-wider}
+use Rattle.phasors.specs.Rate.{Rate, cosine, sine, sixteen}
+use Rattle.phasors.specs.Sums.{withSample, sumTo, weight, Summed, phasorOf}
+
+pub sum-next :
+    (table : List ℤ) (shift : ℕ) (x : ℕ → ℤ) (n : ℕ) →
+    sumTo table shift x (n + 1) ≡ withSample (sumTo table shift x n) (x n) (cosine table n) (sine table shift n)
+unfolding sumTo
+sum-next table shift x n = rw (add-one n)
+
+pub weight-next : (f : ℕ → ℤ) (n : ℕ) → weight f (n + 1) ≡ weight f n + natAbs (f n)
+unfolding weight
+weight-next f n = rw (add-one n)
+
+-- ---- one turn of the loop
+
+pub summed-none : (table : List ℤ) (shift : ℕ) (x : ℕ → ℤ) → Summed table shift x 0 zero
+unfolding sumTo weight
+summed-none table shift x = record { summed = refl; real = lit (pos 0); imag = lit (pos 0) }
+
+pub summed-next :
+    (table : List ℤ) (shift : ℕ) (x : ℕ → ℤ) (n : ℕ) {sums : Phasor} → Summed table shift x n sums → Within 32768 (x n) →
+    Summed table shift x (n + 1) (withSample sums (x n) (cosine table n) (sine table shift n))
+unfolding withSample
+summed-next table shift x n h k = record {
+  summed =
+      ap (λ (s : Phasor). withSample s (x n) (cosine table n) (sine table shift n)) (h .summed) ∙ sym (sum-next table shift x n);
+  real = grown (cosine table) (h .real) (mul k (lit (cosine table n)));
+  imag = grown (sine table shift) (h .imag) (neg (mul k (lit (sine table shift n))));
+}
+  where
+    grown :
+        (f : ℕ → ℤ) {z y : ℤ} → Within (32768 * weight f n) z → Within (32768 * natAbs (f n)) y →
+        Within (32768 * weight f (n + 1)) (z +ℤ y)
+    grown f p q = record { size = omega (arith, add p q .size, weight-next f n) }
+
+-- and from their type alone: a sample adds at most 2 ^ 30 to each sum
+pub inside-next :
+    (n : ℕ) {sums : Phasor} {x c s : ℤ} → Inside (2 ^ 30 * n) sums → Within 32768 x → Within 32768 c → Within 32768 s →
+    Inside (2 ^ 30 * (n + 1)) (withSample sums x c s)
+unfolding withSample
+inside-next n h x c s = record {
+  real = record { size = omega (arith, add (h .real) (mul x c) .size) };
+  imag = record { size = omega (arith, sub (h .imag) (mul x s) .size) };
+}
+
+-- ---- a whole cycle
+
+-- the sums over a whole cycle
+abbrev pub Cycle : Rate → (ℕ → ℤ) → Phasor → Type 0
+Cycle rate x sums = Summed (rate .cosines) (rate .shift) x (length (rate .cosines)) sums
+
+-- How a rate keeps its phasors within 42000 of zero: neither weight is above `most`, and 32768 times that, rounded, is at most 42000.
+pub record Measures (rate : Rate) (most : ℕ) : Type 0 where
+  pub real : weight (cosine (rate .cosines)) (length (rate .cosines)) ≤ most
+  pub imag : weight (sine (rate .cosines) (rate .shift)) (length (rate .cosines)) ≤ most
+  pub above : T (ltb 0 (rate .divisor))
+  pub small : T (leb ((32768 * most + rate .divisor / 2) / rate .divisor) 42000)
+
+pub inside-cycle :
+    {rate : Rate} {most : ℕ} {x : ℕ → ℤ} {sums : Phasor} → Measures rate most → Cycle rate x sums → Inside (32768 * most) sums
+inside-cycle m h = record {
+  real = record { size = omega (arith, h .real .size, m .real) };
+  imag = record { size = omega (arith, h .imag .size, m .imag) };
+}
+
+-- rounded, they are the phasor
+pub rounded-cycle :
+    {rate : Rate} {most : ℕ} {x : ℕ → ℤ} {sums : Phasor} → Measures rate most → Cycle rate x sums →
+    (rounded (rate .divisor) sums ≡ phasorOf rate x) × Inside 42000 (rounded (rate .divisor) sums)
+unfolding phasorOf
+rounded-cycle {rate} m h = (
+  ap (rounded (rate .divisor)) (h .summed),
+  inside-wider (inside-rounded (rate .divisor) (m .above) (inside-cycle m h)) (m .small),
+)
+
+-- 32768 times 164736, rounded by 131072, is 41184
+pub sixteen-measures : Measures sixteen 164736
+unfolding weight
+sixteen-measures = record { real = omega arith; imag = omega arith; above = tt; small = tt }

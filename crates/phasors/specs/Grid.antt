@@ -1,0 +1,42 @@
+-- Document 01, "Window and phasors": "Three phases of up to six ends form one grid of phasors." Phases and ends count from 0, so end 1 is 0.
+use mathlib.Core.Path.{_≡_}
+use mathlib.Core.List.{List, []}
+use Prim.Native.Nat.{ℕ, zero, suc, _+_, _*_, _<_}
+use lib.IntN.{ℤ}
+use lib.ListN.{getD}
+use Rattle.plane.specs.declared.Phasor.{Phasor}
+use Rattle.plane.specs.declared.Phases.{Phases}
+use Rattle.plane.specs.Plane as plane
+use Rattle.samples.specs.Window.{channels}
+use Rattle.phasors.specs.Rate.{Rate}
+use Rattle.phasors.specs.Sums.{sample, phasorOf}
+
+-- The phasor of a phase's voltage, in a window of N ends
+abbrev pub voltage : Rate → List ℤ → ℕ → ℕ → Phasor
+voltage rate w ends p = phasorOf rate (sample w (channels ends) p)
+
+-- The phasor of a phase's current at an end
+abbrev pub current : Rate → List ℤ → ℕ → ℕ → ℕ → Phasor
+current rate w ends p e = phasorOf rate (sample w (channels ends) (3 + 3 * e + p))
+
+-- Va, Vb, Vc
+abbrev pub voltagesOf : Rate → List ℤ → ℕ → Phases
+voltagesOf rate w ends = record { a = voltage rate w ends 0; b = voltage rate w ends 1; c = voltage rate w ends 2 }
+
+-- What stands in a grid at a phase and an end
+abbrev pub cell : List (List Phasor) → ℕ → ℕ → Phasor
+cell g p e = getD (getD g p []) e plane.zero
+
+-- Ia, Ib, Ic of end 1
+abbrev pub localOf : List (List Phasor) → Phases
+localOf g = record { a = cell g 0 0; b = cell g 1 0; c = cell g 2 0 }
+
+-- f 0 + .. + f (n - 1)
+unfoldable pub total : (ℕ → Phasor) → ℕ → Phasor
+total f zero = plane.zero
+total f (suc n) = plane.plus (total f n) (f n)
+
+-- A grid filled from a window: at each phase and end of the line stands that phase's current there, and within 42000 of zero.
+pub record Filled (rate : Rate) (w : List ℤ) (ends : ℕ) (g : List (List Phasor)) : Type 0 where
+  pub measured : (p e : ℕ) → p < 3 → e < ends → cell g p e ≡ current rate w ends p e
+  pub inside : (p e : ℕ) → p < 3 → e < ends → plane.Inside 42000 (cell g p e)
