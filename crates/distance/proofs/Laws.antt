@@ -1,5 +1,5 @@
 -- The statements of specs/Laws.antt, proved.
-use mathlib.Core.Path.{_≡_, refl, sym, ap, _∙_}
+use mathlib.Core.Path.{_≡_, refl, sym}
 use mathlib.Core.Bool.{Bool, true, false, cond, true≢false}
 use mathlib.Core.List.{List, [], _∷_}
 use Prim.Native.Nat.{ℕ}
@@ -13,15 +13,14 @@ use Rattle.whole.proofs.Order.{≤-trans}
 use Rattle.whole.proofs.Machine.{lt-true, le-true, true-lt, false-lt, true-le}
 use Rattle.settings.specs.Fields.{forwardLimit, reverseLimit, negativePickup}
 use Rattle.plane.specs.declared.Phasor.{Phasor}
-use Rattle.plane.specs.declared.Phases.{Phases}
-use Rattle.plane.specs.Plane.{zero, times, rounded, minusJ, dot, squared}
+use Rattle.plane.specs.Plane.{zero, times, rounded, minusJ, squared}
 use Rattle.plane.proofs.Laws.{squared-nonneg, dot-zero, times-zero}
 use Rattle.distance.specs.declared.direction.Direction.{Direction}
 use Rattle.distance.specs.declared.direction.Direction.the-variants.{None, Forward, Reverse}
-use Rattle.distance.specs.Sequence.{a, a², scale, turned, positive}
+use Rattle.distance.specs.Sequence.{a, a², turned, positive}
 use Rattle.distance.specs.Line.{angle}
 use Rattle.distance.specs.Direction.{reachesPickup, torque, sideOf, directionOf, directionNumber}
-use Rattle.distance.specs.Mho.{Loop, mho, asserts, residual, ground, phase, loops, asserting, bits, loopBits}
+use Rattle.distance.specs.Mho.{Loop, mho, asserts, ground, phase, loops, asserting, bits, loopBits}
 use Rattle.distance.specs.Laws.{Exactly, numerator, denominator, MhoRule, LargerReach, NoPolarising, NoPositive, NeverBoth, ForwardRule, ReverseRule}
 
 -- ---- the mho rule

@@ -12,7 +12,7 @@ use Rattle.plane.specs.Plane as plane
 use Rattle.distance.specs.declared.direction.Direction.the-variants.{Forward, Reverse}
 use Rattle.distance.specs.Sequence.{positive}
 use Rattle.distance.specs.Line.{angle}
-use Rattle.distance.specs.Direction.{reachesPickup, torque, directionOf}
+use Rattle.distance.specs.Direction.{torque, directionOf}
 use Rattle.distance.specs.Mho.{Loop, asserts, loopBits}
 
 -- the one holds exactly when the other does

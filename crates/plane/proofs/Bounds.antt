@@ -1,6 +1,6 @@
 -- How `Inside` goes through each operation. The bounds are numerals and compute: `inside-wider (inside-times p q) tt`.
 use mathlib.Core.Path.{_≡_}
-use Prim.Native.Nat.{ℕ, _+_, _*_, _/_, _<_}
+use Prim.Native.Nat.{ℕ, _+_, _*_, _/_}
 use lib.Dec.{T, leb, ltb, ltb→lt}
 use lib.IntN.{ℤ}
 use Rattle.whole.specs.Range.{Within}

@@ -1,7 +1,7 @@
 -- What the operations mean: Re(p q*) is the real part of that product, -j is the complex number (0, -1), and a square is not negative.
 use mathlib.Core.Path.{_≡_}
 use mathlib.Core.List.{[], _∷_}
-use lib.IntN.{pos, negℤ, _+ℤ_, _*ℤ_}
+use lib.IntN.{pos, negℤ}
 use lib.Signed.{_≤ℤ_}
 use Rattle.whole.proofs.Certificate.{quo, ring!, le!, g-sq, _⊞_}
 use Rattle.plane.specs.declared.Phasor.{Phasor}

@@ -61,7 +61,7 @@ pub fn scaled(n: i64, p: Phasor) -> Phasor
 
 // Each component rounded by d.
 pub fn rounded(p: Phasor, d: i64) -> Phasor
-    requires { ⌜ (pos 0 <ℤ d) × Inside (2 ^ 62) p × Within (2 ^ 62) d ⌝ }
+    requires { ⌜ (pos 0 <ℤ d) × Inside (2 ^ 62) p × Within (2 ^ 61) d ⌝ }
     ensures { λ r. ⌜ r ≡ rounded (natAbs d) p ⌝ }
 {
     let re = whole::round_by(p.re, d);

@@ -7,5 +7,6 @@ pub mod Triangle
 pub mod Size
 pub mod Machine
 pub mod Rounding
+pub mod Remainder
 pub mod Roots
 pub mod Examples

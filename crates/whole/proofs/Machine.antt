@@ -1,18 +1,16 @@
--- What operations on i64 give, as facts about the numbers: tests, the quotient toward zero, and -1 - x, which always fits.
+-- What operations on i64 give, as facts about the numbers: tests, and the quotient toward zero.
 use mathlib.Core.Path.{_≡_, refl}
 use mathlib.Core.Bool.{Bool, true, false}
-use Prim.Native.Nat.{ℕ, zero, suc, _+_, _-_, _/_, _^_, _≤_, _<_}
+use Prim.Native.Nat.{ℕ, zero, suc, _-_, _/_, _^_, _≤_, _<_}
 use native.Mathlib.Nat.{div-le-self}
-use native.Mathlib.Numerals.{add-one}
 use native.Mathlib.Omega.{arith}
-use lib.Dec.{T}
-use lib.IntN.{ℤ, pos, negsuc, negℤ, natAbs, _-ℤ_}
-use lib.Signed.{_≤ℤ_, _<ℤ_, leZ, ltZ, ltZ-no, leZ-yes, ltZ-yes, mag, nonNeg, quotZ}
+use lib.IntN.{ℤ, pos, negsuc, negℤ}
+use lib.Signed.{_≤ℤ_, _<ℤ_, leZ, ltZ, ltZ-no, leZ-yes, ltZ-yes, mag, quotZ}
 use denote.Floats.{is-true}
 use mir.Syntax.{w64}
 use mir.Val.{SFits, toZ, ofZ}
 use mir.Facts.{toZ-ofZ}
-use Rattle.whole.proofs.Difference.{diff, d-eq, of-lt}
+use Rattle.whole.proofs.Difference.{diff, of-lt}
 use Rattle.whole.proofs.Order.{<-unless}
 
 -- what the machine reads back of a call's result: `back (c .f .result) (c .f .ok)`, for `simp`
@@ -66,20 +64,3 @@ quot-mag (negsuc a) (negsuc b) h = absurd (h .lt)
 
 pub quot-fits : {s d : ℤ} → pos 0 <ℤ d → SFits w64 s → SFits w64 (quotZ s d)
 quot-fits {s} {d} h f = record { sfits = omega (arith, quot-mag s d h, f .sfits) }
-
--- ---- -1 - x, which is x with its bits turned over
-
-pub flip-pos : (n : ℕ) → negsuc 0 -ℤ pos n ≡ negsuc n
-flip-pos n = d-eq (search diff) (omega arith)
-
-pub flip-negsuc : (n : ℕ) → negsuc 0 -ℤ negsuc n ≡ pos n
-flip-negsuc n = d-eq (search diff) (omega arith)
-
-pub flip-fits : {x : ℤ} → SFits w64 x → SFits w64 (negsuc 0 -ℤ x)
-flip-fits {x = pos n} f = rw (flip-pos n) (record { sfits = f .sfits })
-flip-fits {x = negsuc n} f = rw (flip-negsuc n) (record { sfits = f .sfits })
-
--- of a negative x it is not negative, and one less than the size
-pub flip-size : (x : ℤ) → x <ℤ pos 0 → (natAbs (negsuc 0 -ℤ x) + 1 ≡ natAbs x) × T (nonNeg (negsuc 0 -ℤ x))
-flip-size (pos n) h = let z : ⊥ = omega (arith, of-lt h (search diff)) in absurd z
-flip-size (negsuc n) h = rw (flip-negsuc n) (add-one n, tt)

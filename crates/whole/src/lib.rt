@@ -1,26 +1,29 @@
 // Whole-number arithmetic of the relay: rounding by a divisor, and the root rounded down and up.
 ghost use mathlib.Core.Path.{_≡_};
 ghost use Prim.Native.Nat.{_*_, _<_, _≤_, _^_};
-ghost use lib.IntN.{pos, natAbs};
+ghost use lib.IntN.{pos, natAbs, _-ℤ_, _*ℤ_};
 ghost use lib.Signed.{_<ℤ_, shrZ};
 ghost use Rattle.whole.specs.Range.{Within};
 ghost use Rattle.whole.specs.Round.{roundBy};
 ghost use Rattle.whole.specs.Root.{floorRoot, rootUp};
 
-// The quotient rounded down, below zero too; the machine's own goes toward zero.
-fn floor_div(s: i64, d: i64) -> i64
+// What is left of s once d has been taken off as often as it goes in: from 0 to d - 1, below zero too. The machine's own remainder has the
+// sign of s.
+fn floor_rem(s: i64, d: i64) -> i64
     requires { ⌜ pos 0 <ℤ d ⌝ }
-    ensures { λ r. ⌜ r ≡ shrZ s (natAbs d) ⌝ }
+    ensures { λ r. ⌜ r ≡ s -ℤ d *ℤ shrZ s (natAbs d) ⌝ }
 {
-    if s < 0 { -1 - (-1 - s) / d } else { s / d }
+    let r = s % d;
+    if r < 0 { r + d } else { r }
 }
 
 // x rounded by d: how many times d goes into x, to the nearest whole number; a tie goes up.
 pub fn round_by(x: i64, d: i64) -> i64
-    requires { ⌜ (pos 0 <ℤ d) × Within (2 ^ 62) x × Within (2 ^ 62) d ⌝ }
+    requires { ⌜ (pos 0 <ℤ d) × Within (2 ^ 62) x × Within (2 ^ 61) d ⌝ }
     ensures { λ r. ⌜ r ≡ roundBy (natAbs d) x ⌝ }
 {
-    floor_div(x + d / 2, d)
+    let s = x + d / 2;
+    (s - floor_rem(s, d)) / d
 }
 
 // The root rounded down of a number below the width's square. It is at least r and below r + w throughout, and each turn halves w.

@@ -1,5 +1,5 @@
 -- `plane::minus_j` meets its contract: the turned component fits. Assumes nothing.
-use lib.IntN.{pos, negℤ, +ℤ-idl}
+use lib.IntN.{negℤ, +ℤ-idl}
 use Rattle.whole.proofs.Size.{neg, fit, rd}
 use Rattle.plane.specs.Plane.{minusJ}
 use Rattle.plane.proofs.minus_j.Statement.{statement}

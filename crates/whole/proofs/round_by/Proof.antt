@@ -1,13 +1,18 @@
--- `whole::round_by` meets its contract: half of d is found by the machine's division, and the sum fits.
-use mathlib.Core.Path.{_≡_, refl, _∙_}
-use Prim.Native.Nat.{_/_}
+-- `whole::round_by` meets its contract: half of d is found by the machine's division, and what is left over is taken off before the other, so
+-- that it comes out even.
+use mathlib.Core.Path.{_≡_, refl}
+use Prim.Native.Nat.{_+_, _/_, _^_}
+use native.Mathlib.Omega.{arith}
 use borrow.Author.Needs.{needs}
 use lib.Dec.{lit<}
-use lib.IntN.{ℤ, pos, negsuc, natAbs}
+use lib.IntN.{ℤ, pos, negsuc, natAbs, _+ℤ_}
 use lib.Signed.{_<ℤ_, quotZ}
+use mir.Facts.{toZ-ofZ}
+use Rattle.whole.specs.Range.{Within}
 use Rattle.whole.specs.Round.{roundBy}
-use Rattle.whole.proofs.Size.{add, div, fit, rd}
-use Rattle.whole.proofs.Machine.{back}
+use Rattle.whole.proofs.Size.{add, sub, div, along, fit, rd}
+use Rattle.whole.proofs.Machine.{divisor, quot-fits}
+use Rattle.whole.proofs.Remainder.{rest, rest-within, quot-rest}
 use Rattle.whole.proofs.round_by.Statement.{statement}
 use Rattle.whole.proofs.round_by.Tie as tie
 
@@ -15,25 +20,57 @@ half : (d : ℤ) → pos 0 <ℤ d → quotZ d (pos 2) ≡ pos (natAbs d / 2)
 half (pos n) p = refl
 half (negsuc n) p = absurd (p .lt)
 
-div-floor-div : tie.Need-div-floor-div
-div-floor-div c = let h = c .pre in (lit< tt, simp (rd (h .2) tt) (fit (div (pos 2) (h .2)) tt))
+-- the number that is divided, before what is left over is taken off
+abbrev sum : tie.Start → ℤ
+sum c = c .args .x +ℤ quotZ (c .args .d) (pos 2)
 
-add-floor-div : tie.Need-add-floor-div
-add-floor-div c =
-    let h = c .pre in
-    let q = div (pos 2) (h .2) in
-    simp (rd (h .1) tt, rd (h .2) tt, rd q tt) (fit (add (h .1) q) tt)
+small : (c : tie.Start) → Within (2 ^ 62 + 2 ^ 60) (sum c)
+small c = add (c .pre .1) (div (pos 2) (c .pre .2))
 
-floor-div-requires : tie.Need-floor-div-requires
-floor-div-requires c κs = search needs
+div-s : tie.Need-div-s
+div-s c = let h = c .pre in (lit< tt, simp (rd (h .2) tt) (fit (div (pos 2) (h .2)) tt))
+
+add-s : tie.Need-add-s
+add-s c = let h = c .pre in simp (rd (h .1) tt, rd (h .2) tt, rd (div (pos 2) (h .2)) tt) (fit (small c) tt)
+
+floor-rem-requires : tie.Need-floor-rem-requires
+floor-rem-requires c κs = search needs
+
+-- what is left over
+left-over : (c : tie.After-floor-rem) → c .floor-rem .result ≡ rest (sum (c .before)) (c .before .args .d)
+left-over c =
+    let h = c .before .pre in
+    simp (rd (h .1) tt, rd (h .2) tt, rd (div (pos 2) (h .2)) tt, rd (small (c .before)) tt) at (c .floor-rem .ensures)
+
+over-small : (c : tie.After-floor-rem) → Within (2 ^ 61) (c .floor-rem .result)
+over-small c =
+    let s = c .before in
+    let over = along (left-over c) (rest-within (sum s) (s .args .d) (s .pre .0)) in
+    record { size = omega (arith, over .size, s .pre .2 .size) }
+
+sub-result : tie.Need-sub-result
+sub-result c =
+    let h = c .before .pre in
+    simp (rd (h .1) tt, rd (h .2) tt, rd (div (pos 2) (h .2)) tt, rd (small (c .before)) tt, rd (over-small c) tt)
+    (fit (sub (small (c .before)) (over-small c)) tt)
+
+div-result : tie.Need-div-result
+div-result c =
+    let s = c .before in
+    let h = s .pre in
+    let even = sub (small s) (over-small c) in (
+      divisor (s .args .d) (h .0),
+      simp (rd (h .1) tt, rd (h .2) tt, rd (div (pos 2) (h .2)) tt, rd (small s) tt, rd (over-small c) tt, rd even tt) (quot-fits (h .0) (fit even tt)),
+    )
 
 returns : tie.Need-returns
 unfolding roundBy
 returns c =
-    let h = c .before .pre in
-    let q = div (pos 2) (h .2) in
-    let e = simp (rd (h .1) tt, rd (h .2) tt, rd q tt, rd (add (h .1) q) tt) at (c .floor-div .ensures) in
-    back (c .floor-div .result) (c .floor-div .ok) ∙ (rw (half (c .before .args .d) (h .0)) at e)
+    let s = c .before in
+    let h = s .pre in
+    let even = sub (small s) (over-small c) in
+    simp (rd (h .1) tt, rd (h .2) tt, rd (div (pos 2) (h .2)) tt, rd (small s) tt, rd (over-small c) tt, rd even tt, toZ-ofZ (quot-fits (h .0) (fit even tt)))
+    (rw (left-over c, ← (half (s .args .d) (h .0))) (quot-rest (sum s) (s .args .d) (h .0)))
 
 pub round-by-spec : {M : Type 1} → statement M
-round-by-spec = tie.close (tie.spec div-floor-div add-floor-div floor-div-requires returns)
+round-by-spec = tie.close (tie.spec div-s add-s floor-rem-requires sub-result div-result returns)

@@ -1,6 +1,5 @@
 -- `distance::direction::side` meets its contract: two products fit, and the tests are those of the definition. Assumes nothing.
 use Rattle.whole.proofs.Size.{mul, fit, rd}
-use Rattle.whole.specs.Range.{Within}
 use mir.Facts.{toZ-ofZ}
 use Rattle.distance.specs.Direction.{sideOf}
 use Rattle.distance.proofs.direction.side.Statement.{statement}

@@ -2,9 +2,7 @@
 use mathlib.Core.Path.{_≡_, ap, ap₂, _∙_}
 use Prim.Native.Nat.{_^_}
 use borrow.Author.Needs.{needs}
-use lib.IntN.{ℤ}
 use mir.Facts.{toZ-ofZ}
-use Rattle.whole.specs.Range.{Within}
 use Rattle.whole.proofs.Machine.{back}
 use Rattle.whole.proofs.Size.{wider, along}
 use Rattle.plane.specs.declared.Phasor.{Phasor}

@@ -1,6 +1,5 @@
 -- `distance::mho::residual` meets its contract: the sum of three currents and its product with k fit. Assumes nothing.
 use mathlib.Core.Path.{ap, _∙_}
-use Prim.Native.Nat.{_^_}
 use borrow.Author.Needs.{needs}
 use lib.IntN.{pos}
 use lib.Signed.{ltZ-yes}

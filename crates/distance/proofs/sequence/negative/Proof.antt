@@ -1,7 +1,6 @@
 -- `distance::sequence::negative` meets its contract: 3V2 and 3I2 and how large they are. Assumes nothing.
 use mathlib.Core.Path.{ap₂, _∙_}
 use borrow.Author.Needs.{needs}
-use Rattle.plane.specs.Plane.{AllInside}
 use Rattle.plane.proofs.Bounds.{inside-along}
 use Rattle.distance.specs.Sequence.{sequence}
 use Rattle.distance.proofs.Sizes.{a²-turn, a-turn, turn-inside, all-wider, sequence-inside}

@@ -1,11 +1,10 @@
 -- `distance::sequence::sequence` meets its contract: what is formed at scale 16384 fits. Assumes nothing.
-use mathlib.Core.Path.{_≡_, ap, ap₂, _∙_}
-use Prim.Native.Nat.{_+_, _*_, _^_}
+use mathlib.Core.Path.{ap, ap₂, _∙_}
+use Prim.Native.Nat.{_^_}
 use borrow.Author.Needs.{needs}
 use lib.IntN.{pos}
 use lib.Signed.{ltZ-yes}
 use Rattle.whole.proofs.Size.{lit, wider}
-use Rattle.plane.specs.declared.Phasor.{Phasor}
 use Rattle.plane.specs.Plane.{Inside, plus, rounded}
 use Rattle.plane.proofs.Bounds.{inside-plus, inside-times, inside-scaled, inside-wider, inside-along}
 use Rattle.distance.specs.Sequence.{sequence, scale}

@@ -1,0 +1,8 @@
+/* How many instructions a function executes in one call. */
+#ifndef COUNT_H
+#define COUNT_H
+
+/* `call` makes one call of `function`; what comes back is the number of instructions executed in it, or -1 if it was never entered. */
+long count(void (*call)(void), const void *function);
+
+#endif

@@ -1,0 +1,10 @@
+/* What plain C offers to be counted beside the library. */
+#ifndef PLAIN_H
+#define PLAIN_H
+#include <stddef.h>
+#include <stdint.h>
+
+/* All phasors of a window are measured; what comes back is as cost_phasors gives it. */
+int64_t plain_phasors(const int16_t *window, size_t window_len, uint64_t ends, uint64_t phase, uint64_t end, uint64_t which);
+
+#endif
