@@ -3,9 +3,11 @@
 #
 #   sh tests/kit.sh archive                prove the library and write build/libgorsepetal.a
 #   sh tests/kit.sh ready                  the same, but only if that file is missing or older than the crates
+#   sh tests/kit.sh crate NAME             prove crates/NAME, a crate for tests alone, and write build/libNAME.a
 #   sh tests/kit.sh header                 compile the header alone, as C99 and as C++
 #   sh tests/kit.sh alone                  link the archive with nothing beside it: it must need no symbol
-#   sh tests/kit.sh program SOURCE NAME    compile SOURCE and link it with the archive to build/NAME
+#   sh tests/kit.sh object SOURCE NAME O3  compile SOURCE to build/NAME.o, at -O3 or as said
+#   sh tests/kit.sh program SOURCE NAME..  compile SOURCE and link it with the archive, and with the objects named after it, to build/NAME
 #   sh tests/kit.sh run NAME               run build/NAME
 #
 # GORSEPETAL_ARCHIVE names an archive to use in place of build/libgorsepetal.a. The archive is for x86-64, so C is compiled for
@@ -25,11 +27,13 @@ built=build/libgorsepetal.a
 archive=${GORSEPETAL_ARCHIVE:-$built}
 mkdir -p build
 
-archive() {
-  echo "proving the library and writing $built: about a minute from nothing" >&2
-  rt staticlib gorsepetal >build/archive.log 2>&1 || { cat build/archive.log >&2; fail "the library was not proved"; }
-  cp target/staticlib/libgorsepetal.a "$built"
+crate() {
+  echo "proving crates/$1 and writing build/lib$1.a: about a minute from nothing" >&2
+  rt staticlib "$1" >"build/$1.log" 2>&1 || { cat "build/$1.log" >&2; fail "crates/$1 was not proved"; }
+  cp "target/staticlib/lib$1.a" "build/lib$1.a"
 }
+
+archive() { crate gorsepetal; }
 
 # An archive that the caller names is taken as it is.
 ready() {
@@ -37,7 +41,7 @@ ready() {
   if [ ! -f "$built" ] || [ -n "$(find crates.txt crates -newer "$built")" ]; then archive; fi
 }
 
-compile() { "$bin/clang" --target=x86_64-linux-gnu -O2 -Wall -Wextra -Wpedantic -Werror -isystem tests/include -Iinclude "$@"; }
+compile() { "$bin/clang" --target=x86_64-linux-gnu -Wall -Wextra -Wpedantic -Werror -isystem tests/include -Iinclude "$@"; }
 
 header() {
   compile -x c -std=c99 -fsyntax-only include/gorsepetal.h
@@ -48,11 +52,19 @@ alone() {
   "$bin/ld.lld" -static -z defs --entry=gorsepetal_propose -o build/alone --whole-archive "$archive"
 }
 
+object() { compile -std=c99 -fPIE "-$3" -c "$1" -o "build/$2.o"; }
+
 program() {
-  [ -f "$archive" ] || fail "$archive is not there: run sh tests/kit.sh archive"
-  compile -std=c99 -fPIE -c "$1" -o "build/$2.o"
-  "$bin/ld.lld" -pie --dynamic-linker="$lib/ld-linux-x86-64.so.2" -rpath "$lib" -o "build/$2" \
-    "$lib/Scrt1.o" "$lib/crti.o" "$lib/crtbeginS.o" "build/$2.o" "$archive" \
+  [ -f "$archive" ] || fail "$archive is not there: run sh tests/kit.sh archive, or crate"
+  object "$1" "$2" O2
+  shift
+  name=$1
+  for word; do
+    shift
+    set -- "$@" "build/$word.o"
+  done
+  "$bin/ld.lld" -pie --dynamic-linker="$lib/ld-linux-x86-64.so.2" -rpath "$lib" -o "build/$name" \
+    "$lib/Scrt1.o" "$lib/crti.o" "$lib/crtbeginS.o" "$@" "$archive" \
     "$lib/libc.so.6" "$lib/libc_nonshared.a" "$lib/libgcc.a" "$lib/crtendS.o" "$lib/crtn.o"
 }
 
@@ -62,8 +74,9 @@ run() {
 
 case "${1:-}" in
   archive | ready | header | alone) [ $# -eq 1 ] || fail "$1 takes no further word" ;;
-  program) [ $# -eq 3 ] || fail "program takes SOURCE and NAME" ;;
-  run) [ $# -eq 2 ] || fail "run takes NAME" ;;
-  *) fail "one of archive, ready, header, alone, program, run is wanted" ;;
+  object) [ $# -eq 4 ] || fail "object takes SOURCE, NAME and a level" ;;
+  program) [ $# -ge 3 ] || fail "program takes SOURCE and NAME, and objects" ;;
+  crate | run) [ $# -eq 2 ] || fail "$1 takes NAME" ;;
+  *) fail "one of archive, ready, crate, header, alone, object, program, run is wanted" ;;
 esac
 "$@"

@@ -6,22 +6,17 @@ compare.py [--count N] [--seed S] [--archive PATH]
 It makes N calls at least: all fixed cases, then random ones. The first difference ends it, and so does an answer of document 01
 that no call gave.
 """
-import argparse
-import os
 import random
-import subprocess
 import sys
-import tempfile
 from collections import Counter
 from itertools import chain
 from typing import NamedTuple
 
 sys.dont_write_bytecode = True
+import archive  # noqa: E402
 import cases  # noqa: E402
 import settings  # noqa: E402
 
-ROOT = os.path.dirname(os.path.dirname(os.path.dirname(os.path.abspath(__file__))))
-KIT = ['sh', os.path.join(ROOT, 'tests', 'kit.sh')]
 BEFORE, BEHIND = bytes(range(101, 118)), bytes(range(201, 218))  # odd in length, so that slices also begin at odd addresses
 BATCH = 20000
 
@@ -54,22 +49,8 @@ def follow(history):
     return made, text
 
 
-def batches(histories, count):
-    """The calls of the histories, some thousands at a time, until there are enough."""
-    calls, text, total = [], [], 0
-    for history in histories:
-        made, lines = follow(history)
-        calls += made
-        text += lines
-        if len(calls) >= min(BATCH, count - total):
-            yield calls, b''.join(text)
-            total += len(calls)
-            calls, text = [], []
-            if total >= count:
-                return
-
-
-def as_bytes(wanted):
+def as_bytes(made):
+    wanted = made.wanted
     return wanted.to_c().to_bytes(8, 'big') + guarded(wanted.state) + guarded(wanted.other)
 
 
@@ -86,28 +67,10 @@ def difference(made, got, status):
         answer, end = int.from_bytes(raw[:8], 'big'), 8 + len(guarded(made.state))
         return f'{answer % 256} at {answer // 256}\n    state {shown(raw[8:end])}\n    other {shown(raw[end:])}'
 
-    wanted = as_bytes(made.wanted)
+    wanted = as_bytes(made)
     found = result(got) if len(got) == len(wanted) else f'no result: the driver ended with status {status}'
     return (f'DIFFERENCE in {made.call}\n  lent\n    state {shown(guarded(made.state))}\n    other {shown(guarded(made.other))}\n'
             f'  document 01: {result(wanted)}\n  archive: {found}')
-
-
-def compare(calls, text, seen):
-    """Runs one batch; counts the answers; ends at the first difference."""
-    with tempfile.TemporaryFile() as out:
-        run = subprocess.run(KIT + ['run', 'driver'], input=text, stdout=out, check=False)
-        out.seek(0)
-        answers = out.read()
-    at = 0
-    for made in calls:
-        wanted = as_bytes(made.wanted)
-        got = answers[at:at + len(wanted)]
-        if got != wanted:
-            sys.exit(difference(made, got, run.returncode))
-        seen[made.call, made.wanted.number, made.wanted.place] += 1
-        at += len(wanted)
-    if run.returncode != 0 or at != len(answers):
-        sys.exit(f'the driver ended with status {run.returncode} and {len(answers) - at} bytes too many')
 
 
 def report(seen):
@@ -124,20 +87,15 @@ def report(seen):
 
 
 def main():
-    parser = argparse.ArgumentParser(description=__doc__, formatter_class=argparse.RawDescriptionHelpFormatter)
-    parser.add_argument('--count', type=int, default=100000)
-    parser.add_argument('--seed', type=int, default=1)
-    parser.add_argument('--archive')
-    words = parser.parse_args()
-    if words.archive:
-        os.environ['GORSEPETAL_ARCHIVE'] = os.path.abspath(words.archive)
-    if subprocess.run(KIT + ['program', 'tests/independent/driver.c', 'driver'], check=False).returncode != 0:
-        sys.exit('the driver was not built')
+    words = archive.arguments(__doc__, 100000)
+    archive.build('driver', words.archive)
     seen = Counter()
     fixed = list(cases.fixed())
     count = max(words.count, sum(len(history.steps) for history in fixed))
-    for calls, text in batches(chain(fixed, cases.endless(random.Random(words.seed))), count):
-        compare(calls, text, seen)
+    histories = chain(fixed, cases.endless(random.Random(words.seed)))
+    for calls, text in archive.batches(map(follow, histories), count, BATCH):
+        archive.compare('driver', calls, text, as_bytes, difference)
+        seen.update((made.call, made.wanted.number, made.wanted.place) for made in calls)
     report(seen)
     print(f'independent comparison: {sum(seen.values())} calls agree, seed {words.seed}')
 

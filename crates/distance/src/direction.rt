@@ -4,6 +4,7 @@ ghost use Rattle.whole.specs.Range.{Within};
 ghost use Rattle.plane.specs.Plane.{Inside};
 ghost use Rattle.settings.specs.Fields.{Ranges};
 ghost use Rattle.distance.specs.Direction.{reachesPickup, torque, sideOf, directionOf, directionNumber};
+use crate::line;
 use plane::Phasor;
 
 pub enum Direction {
@@ -61,7 +62,7 @@ pub fn by_settings(s: &[u8], v2: Phasor, i2: Phasor) -> Direction
     if reaches_pickup(settings::fields::negative_pickup(s), i2) {
         let zf = settings::fields::forward_limit(s);
         let zr = settings::fields::reverse_limit(s);
-        let t = torque(crate::line::angle(s), v2, i2);
+        let t = torque(line::angle(s), v2, i2);
         side(zf, zr, t, plane::square(i2))
     } else {
         Direction::None

@@ -8,15 +8,23 @@ ghost use Rattle.settings.specs.Fields.{Ranges};
 ghost use Rattle.distance.specs.Line.{replica, compensation};
 ghost use Rattle.distance.specs.Mho.{mho, asserts, residual, ground, phase, sixOf, asserting, bits, loopBits};
 use crate::bits::front;
+use crate::line;
+use crate::sequence;
 use plane::Phases;
 use plane::Phasor;
+
+// k is in thousandths.
+const K_SCALE: i64 = 1000;
+
+// So are Z and the reach, which comes in beside it.
+const REACH_SCALE: i64 = 1000000;
 
 // The mho rule at reach r.
 fn mho(r: i64, n: i64, m: i64) -> bool
     requires { ⌜ Within 2000 r × Within (2 ^ 36) n × Within (2 ^ 52) m ⌝ }
     ensures { λ x. ⌜ x ≡ mho r n m ⌝ }
 {
-    0 < m && 1000000 * n <= r * m
+    0 < m && REACH_SCALE * n <= r * m
 }
 
 // Whether a loop asserts at reach r, from its voltage, its current and its polarising quantity.
@@ -29,15 +37,13 @@ fn asserts(z: Phasor, r: i64, v: Phasor, i: Phasor, vp: Phasor) -> bool
     mho(r, n, m)
 }
 
-// k(Ia+Ib+Ic), rounded by 1000.
+// k(Ia+Ib+Ic), rounded.
 fn residual(k: Phasor, i: Phases) -> Phasor
     requires { ⌜ Inside (2 ^ 29) k × AllInside 42000 i ⌝ }
     ensures { λ r. ⌜ r ≡ residual k i ⌝ }
 {
-    plane::rounded(
-        plane::times(k, plane::plus(plane::plus(i.a, i.b), i.c)),
-        1000,
-    )
+    let sum = plane::plus(plane::plus(i.a, i.b), i.c);
+    plane::rounded(plane::times(k, sum), K_SCALE)
 }
 
 // Whether a ground loop asserts: its phase's voltage and current, the residual and P.
@@ -97,9 +103,11 @@ pub fn loop_bits(s: &[u8], r: i64, v: Phases, i: Phases) -> u8
     requires { ⌜ Ranges (now s) × Within 2000 r × AllInside 42000 v × AllInside 42000 i ⌝ }
     ensures { λ x. ⌜ x ≡ loopBits (replica (now (s .entry))) (compensation (now (s .entry))) r v i ⌝ }
 {
-    let kr = residual(crate::line::compensation(s), i);
-    let p = crate::sequence::positive(v);
-    let ap = crate::sequence::turned(crate::sequence::a(), p);
-    let a2p = crate::sequence::turned(crate::sequence::a2(), p);
-    six(crate::line::replica(s), r, v, i, kr, p, ap, a2p)
+    let kr = residual(line::compensation(s), i);
+    let p = sequence::positive(v);
+    let a = sequence::a();
+    let a2 = sequence::a2();
+    let ap = sequence::turned(a, p);
+    let a2p = sequence::turned(a2, p);
+    six(line::replica(s), r, v, i, kr, p, ap, a2p)
 }

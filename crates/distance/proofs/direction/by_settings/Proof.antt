@@ -6,12 +6,38 @@ use lib.IntN.{ℤ, pos}
 use Rattle.whole.proofs.Machine.{back}
 use Rattle.whole.proofs.Size.{along, wider}
 use Rattle.plane.specs.declared.Phasor.{Phasor}
+use Rattle.plane.specs.Plane.{squared}
 use Rattle.plane.proofs.Bounds.{inside-along, within-dot}
-use Rattle.settings.specs.Fields.{negativePickup}
+use Rattle.settings.specs.Fields.{forwardLimit, reverseLimit, negativePickup}
+use Rattle.distance.specs.Line.{angle}
 use Rattle.distance.specs.Direction.{reachesPickup, torque, sideOf, directionOf}
 use Rattle.distance.proofs.Sizes.{pickup-within, angle-inside, forward-within, reverse-within}
 use Rattle.distance.proofs.direction.by_settings.Statement.{statement}
 use Rattle.distance.proofs.direction.by_settings.Tie as tie
+
+-- whether the pickup is reached, by the record
+reached : (c : tie.After-reaches-pickup) → c .reaches-pickup .result ≡ reachesPickup (pos (negativePickup (now (c .before .before .before .args .s)))) (c .before .before .before .args .i2)
+reached c =
+    let p = c .before .negative-pickup in
+    (simp (back (p .result) (p .ok)) at (c .reaches-pickup .ensures))
+    ∙ ap (λ (z : ℤ). reachesPickup z (c .before .before .before .args .i2)) (p .ensures)
+
+-- and on which side T lies, by the record
+sides :
+    (c : tie.After-side) → let a = c .before .before .before .before .before .before .before .before .before .before .args in
+    c .side .result ≡ sideOf (forwardLimit (now (a .s))) (reverseLimit (now (a .s))) (torque (angle (now (a .s))) (a .v2) (a .i2)) (squared (a .i2))
+sides c =
+    let q = c .before in
+    let t = q .before in
+    let g = t .before in
+    let r = g .before in
+    let f = r .before in
+    let a = f .before .before .before .before .before .args in
+    let zf = f .forward-limit in
+    let zr = r .reverse-limit in
+    let T = t .torque .ensures ∙ ap (λ (d : Phasor). torque d (a .v2) (a .i2)) (g .angle .ensures) in
+    (simp (back (zf .result) (zf .ok), back (zr .result) (zr .ok), back (t .torque .result) (t .torque .ok), back (q .square .result) (q .square .ok)) at (c .side .ensures))
+    ∙ (λ k. sideOf (zf .ensures k) (zr .ensures k) (T k) (q .square .ensures k))
 
 negative-pickup-requires : tie.Need-negative-pickup-requires
 negative-pickup-requires c κs = search needs
@@ -54,29 +80,11 @@ side-requires c κs =
       wider (along (s .ensures) (within-dot (h .2) (h .2))) tt,
     )
 
--- whether the pickup is reached, by the record
-reached : (c : tie.After-reaches-pickup) → c .reaches-pickup .result ≡ reachesPickup (pos (negativePickup (now (c .before .before .before .args .s)))) (c .before .before .before .args .i2)
-reached c =
-    let p = c .before .negative-pickup in
-    (simp (back (p .result) (p .ok)) at (c .reaches-pickup .ensures))
-    ∙ ap (λ (z : ℤ). reachesPickup z (c .before .before .before .args .i2)) (p .ensures)
-
 returns : tie.Need-returns
 unfolding directionOf
 returns c =
-    let q = c .before in
-    let t = q .before in
-    let g = t .before in
-    let r = g .before in
-    let f = r .before in
-    let p = f .before .before in
-    let a = p .before .before .before .args in
-    let zf = f .forward-limit in
-    let zr = r .reverse-limit in
-    let T = t .torque .ensures ∙ ap (λ (d : Phasor). torque d (a .v2) (a .i2)) (g .angle .ensures) in
-    let e =
-    simp (back (zf .result) (zf .ok), back (zr .result) (zr .ok), back (t .torque .result) (t .torque .ok), back (q .square .result) (q .square .ok)) at (c .side .ensures) in
-    rw (sym (reached p) ∙ f .before .if1 .taken) (e ∙ (λ k. sideOf (zf .ensures k) (zr .ensures k) (T k) (q .square .ensures k)))
+    let then = c .before .before .before .before .before .before in
+    rw (sym (reached (then .before)) ∙ then .if1 .taken) (sides c)
 
 returns-2 : tie.Need-returns-2
 unfolding directionOf

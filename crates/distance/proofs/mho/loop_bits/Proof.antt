@@ -15,31 +15,6 @@ use Rattle.distance.proofs.Sizes.{replica-inside, compensation-inside, 
 use Rattle.distance.proofs.mho.loop_bits.Statement.{statement}
 use Rattle.distance.proofs.mho.loop_bits.Tie as tie
 
-compensation-requires : tie.Need-compensation-requires
-compensation-requires c κs = search needs
-
-residual-requires : tie.Need-residual-requires
-residual-requires c κs =
-    let h = c .before .before .pre in (inside-along (c .compensation .ensures) (inside-wider (compensation-inside (h .0)) tt), h .3)
-
-positive-requires : tie.Need-positive-requires
-positive-requires c κs = search needs
-
-a-requires : tie.Need-a-requires
-a-requires c κs = search needs
-
-turned-requires : tie.Need-turned-requires
-turned-requires c κs = (inside-wider (turn-inside (c .a .ensures) a-turn) tt, inside-wider (c .before .positive .ensures .1) tt)
-
-a2-requires : tie.Need-a2-requires
-a2-requires c κs = search needs
-
-turned-requires-2 : tie.Need-turned-requires-2
-turned-requires-2 c κs = (inside-wider (turn-inside (c .a2 .ensures) a²-turn) tt, inside-wider (c .before .before .before .positive .ensures .1) tt)
-
-replica-requires : tie.Need-replica-requires
-replica-requires c κs = search needs
-
 -- what each quantity is
 module _ (c : tie.After-replica) where
   abbrev d : tie.After-turned2
@@ -57,14 +32,41 @@ module _ (c : tie.After-replica) where
   residual-is : p .before .residual .result ≡ residual (compensation (now (start .args .s))) (start .args .i)
   residual-is = p .before .residual .ensures ∙ ap (λ (k : Phasor). residual k (start .args .i)) (p .before .before .compensation .ensures)
 
-  ap-is : d .before .before .turned .result ≡ turned a (positive v)
-  ap-is = d .before .before .turned .ensures ∙ (λ k. turned (d .before .before .before .a .ensures k) (p .positive .ensures .0 k))
+  ap-is : d .before .turned .result ≡ turned a (positive v)
+  ap-is = d .before .turned .ensures ∙ (λ k. turned (d .before .before .before .a .ensures k) (p .positive .ensures .0 k))
 
   a²p-is : d .turned2 .result ≡ turned a² (positive v)
-  a²p-is = d .turned2 .ensures ∙ (λ k. turned (d .before .a2 .ensures k) (p .positive .ensures .0 k))
+  a²p-is = d .turned2 .ensures ∙ (λ k. turned (d .before .before .a2 .ensures k) (p .positive .ensures .0 k))
 
   p-inside : Inside 160000 (positive v)
   p-inside = inside-along (sym (p .positive .ensures .0)) (p .positive .ensures .1)
+
+compensation-requires : tie.Need-compensation-requires
+compensation-requires c κs = search needs
+
+residual-requires : tie.Need-residual-requires
+residual-requires c κs =
+    let h = c .before .before .pre in (inside-along (c .compensation .ensures) (inside-wider (compensation-inside (h .0)) tt), h .3)
+
+positive-requires : tie.Need-positive-requires
+positive-requires c κs = search needs
+
+a-requires : tie.Need-a-requires
+a-requires c κs = search needs
+
+a2-requires : tie.Need-a2-requires
+a2-requires c κs = search needs
+
+turned-requires : tie.Need-turned-requires
+turned-requires c κs =
+    (inside-wider (turn-inside (c .before .a .ensures) a-turn) tt, inside-wider (c .before .before .positive .ensures .1) tt)
+
+turned-requires-2 : tie.Need-turned-requires-2
+turned-requires-2 c κs =
+    (inside-wider (turn-inside (c .before .a2 .ensures) a²-turn) tt, inside-wider (c .before .before .before .positive .ensures .1) tt)
+
+replica-requires : tie.Need-replica-requires
+replica-requires c κs = search needs
 
 six-requires : tie.Need-six-requires
 six-requires c κs =
@@ -96,8 +98,8 @@ loop-bits-spec =
     residual-requires
     positive-requires
     a-requires
-    turned-requires
     a2-requires
+    turned-requires
     turned-requires-2
     replica-requires
     six-requires
