@@ -101,6 +101,20 @@ def of_end_1(name: str, line: Line, v, i, **expected):
              for what, number in expected.items()})
 
 
+def worked_example() -> Iterator[tuple[Case, dict]]:
+    """What docs/HAND-CHECKS.md works out by hand, with its numbers."""
+    v = [(1000, 0), (-1000, -1732), (-1000, 1732)]
+    i = [(0, -1000), ZERO, ZERO]
+    quantities = {'3V1, real': 5000, '3V1, imaginary': 0,
+                  '3V2, real': -1000, '3V2, imaginary': 0,
+                  '3I2, real': 0, '3I2, imaginary': -1000,
+                  'pickup': 1, 'direction': 1}
+    for r, bits in ((850, 1), (600, 1), (599, 0)):
+        line = LINE._replace(r=r, pickup=50)
+        yield of_end_1(f'the example worked by hand, r={r}', line, v, i,
+                       loops=bits, **quantities)
+
+
 def through_windows() -> Iterator[tuple[Case, dict]]:
     """Each a case, and what the document gives, by the name of the
     quantity."""
@@ -121,5 +135,6 @@ def through_windows() -> Iterator[tuple[Case, dict]]:
         yield of_end_1(f'P14, zf={zf}, pickup {pickup}', line,
                        [(0, -50), ZERO, ZERO], [(100, 0), ZERO, ZERO],
                        direction=expected, pickup=int(pickup == 100))
+    yield from worked_example()
     yield of_end_1('Vp=0', LINE, [ZERO] * 3, [(0, -1000), ZERO, (7, 9)],
                    loops=0)

@@ -1,4 +1,5 @@
--- Document 01, "Window and phasors": the sums A and B of a channel, and its phasor, over any rate.
+-- Document 01, "Window and phasors" (source document 001, equation (3-44), the discrete transform): the sums A and B of a channel, and its
+-- phasor, over any rate.
 use mathlib.Core.Path.{_≡_}
 use mathlib.Core.List.{List}
 use Prim.Native.Nat.{ℕ, zero, suc, _+_, _*_}
