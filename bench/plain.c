@@ -10,6 +10,7 @@ typedef struct {
 static const int16_t COSINES[FRAMES] = {16384,  15137,  11585,  6270,  0, -6270, -11585, -15137,
                                         -16384, -15137, -11585, -6270, 0, 6270,  11585,  15137};
 
+/* The compilers that firmware meets shift a negative number downward. */
 static int64_t rounded(int64_t sum) { return (sum + 65536) >> 17; }
 
 static phasor measure(const int16_t *window, size_t channels, size_t channel) {

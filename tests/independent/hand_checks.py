@@ -11,7 +11,8 @@ from measuring import (COSINES, Line, Loop, Phasor, asserts, channels,
                        reaches_pickup)
 
 ZERO = Phasor(0, 0)
-# D of P14, Z of P12; the rest as in the document's example record.
+# D of P14, Z of P12; the rest as in the document's example record, but for
+# the pickup, which is P14's.
 LINE = Line(ends=2, Z=Phasor(0, 1000), r=850, k=Phasor(667, 0),
             D=Phasor(0, 1000), zf=-300, zr=300, pickup=100)
 

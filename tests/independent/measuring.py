@@ -1,8 +1,8 @@
 """The rules of document 01 for phasors, direction and mho loops, in its order
 and words.
 
-All arithmetic is in whole numbers. Comments in quotes are the document's own
-sentences.
+All arithmetic is in whole numbers; only the table of cosines is computed and
+then rounded. Comments in quotes are the document's own sentences.
 """
 import math
 from typing import NamedTuple, Optional

@@ -13,7 +13,8 @@ from settings import NOTHING, first_fault
 from windows import fault_case
 
 GOOD = record(LINE)
-# With a good record everything measured of this fault is other than 0.
+# With a good record everything measured of this fault is other than 0, at
+# its reach and at any larger one.
 NUMBERS = fault_case(LINE, Place('ag', True, 0.05, 9000 + 500j, 0.3 + 2j, 300 + 40j), 0.5).numbers
 TOO_MANY = 7  # ends
 

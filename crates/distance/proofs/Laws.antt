@@ -1,4 +1,4 @@
--- The statements of specs/Laws.antt, proved.
+-- The statements of specs/Laws.antt, proved; and that each rounding is document 01's.
 use mathlib.Core.Path.{_≡_, refl, sym}
 use mathlib.Core.Bool.{Bool, true, false, cond, true≢false}
 use mathlib.Core.List.{List, [], _∷_}
@@ -6,22 +6,22 @@ use Prim.Native.Nat.{ℕ}
 use lib.Dec.{T, eqb, eqb-refl}
 use lib.IntN.{ℤ, pos, _*ℤ_}
 use lib.Signed.{_≤ℤ_, _<ℤ_, ltZ, leZ}
-use Rattle.whole.specs.Round.{roundBy}
-use Rattle.whole.specs.Length.{All}
+use Rattle.whole.specs.Round.{Rounded}
 use Rattle.whole.proofs.Certificate.{quo, le!, false!, g-le, g-lt, g-num, _⊞_, _⊠_}
 use Rattle.whole.proofs.Order.{≤-trans}
 use Rattle.whole.proofs.Machine.{lt-true, le-true, true-lt, false-lt, true-le}
-use Rattle.settings.specs.Fields.{forwardLimit, reverseLimit, negativePickup}
+use Rattle.settings.specs.Fields.{forwardLimit, reverseLimit}
 use Rattle.plane.specs.declared.Phasor.{Phasor}
-use Rattle.plane.specs.Plane.{zero, times, rounded, minusJ, squared}
-use Rattle.plane.proofs.Laws.{squared-nonneg, dot-zero, times-zero}
+use Rattle.plane.specs.declared.Phases.{Phases}
+use Rattle.plane.specs.Plane.{zero, plus, times, scaled, squared}
+use Rattle.plane.proofs.Laws.{squared-nonneg, dot-zero, times-zero, rounded-zero, rounded-is, minus-j-zero}
 use Rattle.distance.specs.declared.direction.Direction.{Direction}
 use Rattle.distance.specs.declared.direction.Direction.the-variants.{None, Forward, Reverse}
-use Rattle.distance.specs.Sequence.{a, a², turned, positive}
+use Rattle.distance.specs.Sequence.{a, a², scale, sequence, turned}
 use Rattle.distance.specs.Line.{angle}
 use Rattle.distance.specs.Direction.{reachesPickup, torque, sideOf, directionOf, directionNumber}
-use Rattle.distance.specs.Mho.{Loop, mho, asserts, ground, phase, loops, asserting, bits, loopBits}
-use Rattle.distance.specs.Laws.{Exactly, numerator, denominator, MhoRule, LargerReach, NoPolarising, NoPositive, NeverBoth, ForwardRule, ReverseRule}
+use Rattle.distance.specs.Mho.{numerator, denominator, mho, asserts, residual, kProduct, ground, phase, loopsOf, loopBits}
+use Rattle.distance.specs.Laws.{Exactly, MhoRule, LargerReach, NoPolarising, NoPositive, NeverBoth, ForwardRule, ReverseRule}
 
 -- ---- the mho rule
 
@@ -49,25 +49,25 @@ pub no-polarising : NoPolarising
 unfolding asserts mho
 no-polarising z r l e = rw (e, dot-zero (times z (l .i)))
 
--- none of a list asserts, so no bit is set
-none-asserts : (z : Phasor) (r : ℤ) (ls : List Loop) → All (λ l. l .vp ≡ zero) ls → bits (asserting z r ls) ≡ 0
-none-asserts z r [] h = refl
-none-asserts z r (l ∷ ls) h = rw (no-polarising z r l (h .0), none-asserts z r ls (h .1))
-
 -- aP and a²P of 0
 turned-zero : (f : Phasor) → turned f zero ≡ zero
-unfolding turned rounded roundBy
-turned-zero f = rw (times-zero f)
+unfolding turned
+turned-zero f = rw (times-zero f) (rounded-zero scale tt)
 
 pub no-positive : NoPositive
-unfolding loopBits ground phase minusJ
+unfolding loopBits loopsOf ground phase
 no-positive z k r v i e =
-    let ap : turned a (positive v) ≡ zero = rw e (turned-zero a) in
-    let a²p : turned a² (positive v) ≡ zero = rw e (turned-zero a²) in
-    none-asserts z r (loops k v i) (e, (a²p, (ap, (turn ap, (turn e, (turn a²p, tt))))))
-  where
-    turn : {p : Phasor} → p ≡ zero → minusJ p ≡ zero
-    turn h = rw h
+    let off = no-polarising z r in
+    let kp = kProduct k i in
+    rw (e, turned-zero a, turned-zero a²)
+    (rw (
+      off (ground (v .a) (i .a) kp zero) refl,
+      off (ground (v .b) (i .b) kp zero) refl,
+      off (ground (v .c) (i .c) kp zero) refl,
+      off (phase (v .a) (v .b) (i .a) (i .b) zero) minus-j-zero,
+      off (phase (v .b) (v .c) (i .b) (i .c) zero) minus-j-zero,
+      off (phase (v .c) (v .a) (i .c) (i .a) zero) minus-j-zero,
+    ))
 
 -- ---- direction
 
@@ -103,7 +103,7 @@ is-reverse false c d e = absurd (apart e)
 -- the three tests
 module _ (s : List ℕ) (v2 i2 : Phasor) where
   abbrev reaches : Bool
-  reaches = reachesPickup (pos (negativePickup s)) i2
+  reaches = reachesPickup s i2
 
   abbrev forward : Bool
   forward = ltZ (torque (angle s) v2 i2) (forwardLimit s *ℤ squared i2)
@@ -124,3 +124,21 @@ reverse-rule s v2 i2 limits = (
   λ e. (let h = is-reverse (reaches s v2 i2) (forward s v2 i2) (reverse s v2 i2) e in (le-true (h .0), lt-true (h .1))),
   λ h. rw (true-le (h .0), false-lt (λ f. never-both s v2 i2 limits f (h .1)), true-lt (h .1)),
 )
+
+-- ---- what is rounded is document 01's one whole number
+
+pub sequence-is :
+    (f g : Phasor) (x : Phases) → let sum = plus (plus (scaled (pos scale) (x .a)) (times f (x .b))) (times g (x .c)) in
+    Rounded scale (sum .re) (sequence f g x .re) × Rounded scale (sum .im) (sequence f g x .im)
+unfolding sequence
+sequence-is f g x = rounded-is scale tt refl _
+
+pub turned-is : (f p : Phasor) → Rounded scale (times f p .re) (turned f p .re) × Rounded scale (times f p .im) (turned f p .im)
+unfolding turned
+turned-is f p = rounded-is scale tt refl _
+
+pub k-product-is :
+    (k : Phasor) (i : Phases) → let product = times k (residual i) in
+    Rounded 1000 (product .re) (kProduct k i .re) × Rounded 1000 (product .im) (kProduct k i .im)
+unfolding kProduct
+k-product-is k i = rounded-is 1000 tt refl _

@@ -1,21 +1,19 @@
 -- How large each quantity of distance is, from the ranges of a good settings record and of phasors within 42000 of zero. So nothing exceeds
 -- 64 bits: a reach of 2000 times m, the largest of all, stays below 9007199254740992000.
-use mathlib.Core.Path.{_≡_}
-use Prim.Native.Nat.{ℕ, _^_}
-use lib.Dec.{T, leb}
+use Prim.Native.Nat.{ℕ}
 use mathlib.Core.List.{List}
 use lib.IntN.{ℤ, pos}
 use Rattle.whole.specs.Range.{Within}
 use Rattle.whole.proofs.Size.{lit, wider, abs-of}
 use Rattle.plane.specs.declared.Phasor.{Phasor}
 use Rattle.plane.specs.declared.Phases.{Phases}
-use Rattle.plane.specs.Plane.{Inside, AllInside}
+use Rattle.plane.specs.Plane.{Inside, AllInside, phasorSize}
 use Rattle.plane.proofs.Bounds.{inside-plus, inside-factor, inside-scaled, inside-rounded, inside-wider}
 use Rattle.settings.specs.Record.{minus}
-use Rattle.settings.specs.Fields.{From, FromSigned, Ranges, forwardLimit, reverseLimit, negativePickup}
-use Rattle.distance.specs.Sequence.{a, a², scale, turned, sequence}
-use Rattle.distance.specs.Line.{replica, compensation, angle}
-use Rattle.distance.specs.Mho.{residual}
+use Rattle.settings.specs.Fields.{From, FromSigned, Ranges, reach, forwardLimit, reverseLimit, negativePickup}
+use Rattle.distance.specs.Sequence.{Turn, sequenceSize, polarisingSize, a, a², scale, turned, sequence}
+use Rattle.distance.specs.Line.{replica, compensation, Compensates, angle}
+use Rattle.distance.specs.Mho.{residual, kProduct}
 
 -- ---- the settings
 
@@ -29,15 +27,8 @@ module _ {s : List ℕ} (h : Ranges s) where
   pub replica-inside : Inside 20000 (replica s)
   replica-inside = record { real = from (h .replicaReal-range); imag = from (h .replicaImaginary-range) }
 
-  -- k
-  pub compensation-real : Within 1000 (compensation s .re)
-  compensation-real = from (h .kReal-range)
-
-  pub compensation-imaginary : Within 500 (compensation s .im)
-  compensation-imaginary = from-signed (h .kImaginary-range)
-
-  pub compensation-inside : Inside 1000 (compensation s)
-  compensation-inside = record { real = compensation-real; imag = wider compensation-imaginary tt }
+  pub compensation-inside : Compensates (compensation s)
+  compensation-inside = record { real = from (h .kReal-range); imag = from-signed (h .kImaginary-range) }
 
   pub angle-inside : Inside 1000 (angle s)
   angle-inside = record { real = from (h .angleReal-range); imag = from (h .angleImaginary-range) }
@@ -51,12 +42,10 @@ module _ {s : List ℕ} (h : Ranges s) where
   pub pickup-within : Within 42000 (pos (negativePickup s))
   pickup-within = from (h .negativePickup-range)
 
--- ---- the quantities
+  pub reach-within : Within 2000 (pos (reach s))
+  reach-within = from (h .reach-range)
 
--- a factor such as a and a²
-pub record Turn (f : Phasor) : Type 0 where
-  pub real : Within 8192 (f .re)
-  pub imag : Within 14189 (f .im)
+-- ---- the quantities
 
 pub a-turn : Turn a
 a-turn = record { real = lit (a .re); imag = lit (a .im) }
@@ -64,15 +53,11 @@ a-turn = record { real = lit (a .re); imag = lit (a .im) }
 pub a²-turn : Turn a²
 a²-turn = record { real = lit (a² .re); imag = lit (a² .im) }
 
--- a call that gives such a factor gives one that its callers can use
-pub turn-inside : {f g : Phasor} → f ≡ g → Turn g → Inside (2 ^ 29) f
-turn-inside e t = rw e (record { real = wider (t .real) tt; imag = wider (t .imag) tt })
-
-pub all-wider : {a b : ℕ} {x : Phases} → AllInside a x → T (leb a b) → AllInside b x
-all-wider h t = record { inside-a = inside-wider (h .inside-a) t; inside-b = inside-wider (h .inside-b) t; inside-c = inside-wider (h .inside-c) t }
+pub turn-inside : {f : Phasor} → Turn f → Inside 14189 f
+turn-inside t = record { real = wider (t .real) tt; imag = t .imag }
 
 -- 3V1, 3V2 and 3I2
-pub sequence-inside : {f g : Phasor} {x : Phases} → Turn f → Turn g → AllInside 42000 x → Inside 160000 (sequence f g x)
+pub sequence-inside : {f g : Phasor} {x : Phases} → Turn f → Turn g → AllInside phasorSize x → Inside sequenceSize (sequence f g x)
 unfolding sequence
 sequence-inside f g x =
     let first = inside-scaled (lit (pos scale)) (x .inside-a) in
@@ -81,12 +66,16 @@ sequence-inside f g x =
     inside-wider (inside-rounded scale tt (inside-plus (inside-plus first second) third)) tt
 
 -- aP and a²P
-pub turned-inside : {f p : Phasor} → Turn f → Inside 160000 p → Inside 220000 (turned f p)
+pub turned-inside : {f p : Phasor} → Turn f → Inside sequenceSize p → Inside polarisingSize (turned f p)
 unfolding turned
 turned-inside f p = inside-wider (inside-rounded scale tt (inside-factor (f .real) (f .imag) p)) tt
 
--- the k product
-pub residual-inside : {s : List ℕ} {i : Phases} → Ranges s → AllInside 42000 i → Inside 189000 (residual (compensation s) i)
+-- Ia+Ib+Ic
+pub residual-inside : {i : Phases} → AllInside phasorSize i → Inside 126000 (residual i)
 unfolding residual
-residual-inside h i =
-    inside-wider (inside-rounded 1000 tt (inside-factor (compensation-real h) (compensation-imaginary h) (inside-plus (inside-plus (i .inside-a) (i .inside-b)) (i .inside-c)))) tt
+residual-inside i = inside-plus (inside-plus (i .inside-a) (i .inside-b)) (i .inside-c)
+
+-- the k product
+pub k-product-inside : {k : Phasor} {i : Phases} → Compensates k → AllInside phasorSize i → Inside 189000 (kProduct k i)
+unfolding kProduct
+k-product-inside k i = inside-wider (inside-rounded 1000 tt (inside-factor (k .real) (k .imag) (residual-inside i))) tt

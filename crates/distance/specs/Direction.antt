@@ -11,22 +11,25 @@ use Rattle.distance.specs.declared.direction.Direction.{Direction}
 use Rattle.distance.specs.declared.direction.Direction.the-variants.{None, Forward, Reverse}
 use Rattle.distance.specs.Line.{angle}
 
+-- In these names v2 is 3V2 and i2 is 3I2.
+
 -- 3I2 reaches its pickup: |3I2|² is not "below the square of its pickup"
-unfoldable pub reachesPickup : ℤ → Phasor → Bool
-reachesPickup pickup i2 = leZ (pickup *ℤ pickup) (squared i2)
+unfoldable pub reachesPickup : List ℕ → Phasor → Bool
+reachesPickup s i2 = leZ (pos (negativePickup s) *ℤ pos (negativePickup s)) (squared i2)
 
 -- "T = Re[3V2 (D 3I2)*]"
 unfoldable pub torque : Phasor → Phasor → Phasor → ℤ
 torque d v2 i2 = dot v2 (times d i2)
 
--- "forward if T < zf |3I2|², reverse if T > zr |3I2|², else none", for T and for |3I2|²
+-- "forward if T < zf |3I2|², reverse if T > zr |3I2|², else none", for T and for |3I2|². "The paper's calculated Z2 is negative for a
+-- forward fault."
 unfoldable pub sideOf : ℤ → ℤ → ℤ → ℤ → Direction
-sideOf zf zr t s = cond (ltZ t (zf *ℤ s)) Forward (cond (ltZ (zr *ℤ s) t) Reverse None)
+sideOf zf zr t square = cond (ltZ t (zf *ℤ square)) Forward (cond (ltZ (zr *ℤ square) t) Reverse None)
 
 -- The direction by a settings record, from 3V2 and 3I2
 unfoldable pub directionOf : List ℕ → Phasor → Phasor → Direction
 directionOf s v2 i2 =
-    cond (reachesPickup (pos (negativePickup s)) i2) (sideOf (forwardLimit s) (reverseLimit s) (torque (angle s) v2 i2) (squared i2)) None
+    cond (reachesPickup s i2) (sideOf (forwardLimit s) (reverseLimit s) (torque (angle s) v2 i2) (squared i2)) None
 
 -- Document 01, "Decision record": "0 none, 1 forward, 2 reverse"
 abbrev pub directionNumber : Direction → ℕ

@@ -13,7 +13,8 @@ use Rattle.distance.specs.declared.direction.Direction.the-variants.{For
 use Rattle.distance.specs.Sequence.{positive}
 use Rattle.distance.specs.Line.{angle}
 use Rattle.distance.specs.Direction.{torque, directionOf}
-use Rattle.distance.specs.Mho.{Loop, asserts, loopBits}
+use Rattle.distance.specs.declared.mho.Loop.{Loop}
+use Rattle.distance.specs.Mho.{loopsOf, numerator, denominator, asserts, loopBits}
 
 -- the one holds exactly when the other does
 abbrev pub Exactly : Type 0 → Type 0 → Type 0
@@ -21,20 +22,13 @@ Exactly A B = (A → B) × (B → A)
 
 -- ---- the mho rule
 
--- n and m of a loop
-abbrev pub numerator : Loop → ℤ
-numerator l = plane.dot (l .v) (l .vp)
-
-abbrev pub denominator : Phasor → Loop → ℤ
-denominator z l = plane.dot (plane.times z (l .i)) (l .vp)
-
 -- The denominator is positive and the reach, n over m, is at most the setting: "m > 0 and 1000000 n <= r m"
-abbrev pub Within-reach : Phasor → ℤ → Loop → Type 0
-Within-reach z r l = (pos 0 <ℤ denominator z l) × ((pos 1000000 *ℤ numerator l) ≤ℤ (r *ℤ denominator z l))
+abbrev pub WithinReach : Phasor → ℤ → Loop → Type 0
+WithinReach z r l = (pos 0 <ℤ denominator z l) × ((pos 1000000 *ℤ numerator l) ≤ℤ (r *ℤ denominator z l))
 
 -- Demand 2 of a loop
 abbrev pub MhoRule : Type 0
-MhoRule = (z : Phasor) (r : ℤ) (l : Loop) → Exactly (asserts z r l ≡ true) (Within-reach z r l)
+MhoRule = (z : Phasor) (r : ℤ) (l : Loop) → Exactly (asserts z r l ≡ true) (WithinReach z r l)
 
 -- A loop that asserts at a reach asserts at every larger one.
 abbrev pub LargerReach : Type 0
@@ -46,7 +40,7 @@ NoPolarising = (z : Phasor) (r : ℤ) (l : Loop) → l .vp ≡ plane.zero → as
 
 -- Nor does one of the six where 3V1 = 0.
 abbrev pub NoPositive : Type 0
-NoPositive = (z k : Phasor) (r : ℤ) (v i : Phases) → positive v ≡ plane.zero → loopBits z k r v i ≡ 0
+NoPositive = (z k : Phasor) (r : ℤ) (v i : Phases) → positive v ≡ plane.zero → loopBits z r (loopsOf k v i) ≡ 0
 
 -- ---- direction
 

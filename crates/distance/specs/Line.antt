@@ -2,6 +2,7 @@
 use Prim.Native.Nat.{ℕ}
 use mathlib.Core.List.{List}
 use lib.IntN.{pos}
+use Rattle.whole.specs.Range.{Within}
 use Rattle.settings.specs.Fields.{replicaReal, replicaImaginary, kReal, kImaginary, angleReal, angleImaginary}
 use Rattle.plane.specs.declared.Phasor.{Phasor}
 
@@ -12,6 +13,11 @@ replica s = record { re = pos (replicaReal s); im = pos (replicaImaginary s) }
 -- k, thousandths
 abbrev pub compensation : List ℕ → Phasor
 compensation s = record { re = pos (kReal s); im = kImaginary s }
+
+-- How large k is
+pub record Compensates (k : Phasor) : Type 0 where
+  pub real : Within 1000 (k .re)
+  pub imag : Within 500 (k .im)
 
 -- D, the line angle
 abbrev pub angle : List ℕ → Phasor

@@ -2,5 +2,4 @@
 pub mod sequence; // 3V1, 3V2, 3I2
 pub mod line; // the line's settings as complex numbers
 pub mod direction; // none, forward or reverse
-pub mod bits; // yes and no as bits
 pub mod mho; // the loops AG, BG, CG, AB, BC, CA

@@ -1,11 +1,14 @@
-// The settings that describe the line, as complex numbers.
+// The settings that describe the line, as complex numbers, each in the range that a good record gives it.
 ghost use mathlib.Core.Path.{_≡_};
-ghost use Rattle.distance.specs.Line.{replica, compensation, angle};
+ghost use Rattle.plane.specs.Plane.{Inside};
+ghost use Rattle.settings.specs.Fields.{Ranges};
+ghost use Rattle.distance.specs.Line.{replica, compensation, Compensates, angle};
 use plane::Phasor;
 
 // Z, the replica impedance, thousandths.
 pub fn replica(s: &[u8]) -> Phasor
-    ensures { λ r. ⌜ r ≡ replica (now (s .entry)) ⌝ }
+    requires { ⌜ Ranges (now s) ⌝ }
+    ensures { λ r. ⌜ (r ≡ replica (now (s .entry))) × Inside 20000 r ⌝ }
 {
     let re = settings::fields::replica_real(s);
     let im = settings::fields::replica_imaginary(s);
@@ -14,7 +17,8 @@ pub fn replica(s: &[u8]) -> Phasor
 
 // k, thousandths.
 pub fn compensation(s: &[u8]) -> Phasor
-    ensures { λ r. ⌜ r ≡ compensation (now (s .entry)) ⌝ }
+    requires { ⌜ Ranges (now s) ⌝ }
+    ensures { λ r. ⌜ (r ≡ compensation (now (s .entry))) × Compensates r ⌝ }
 {
     let re = settings::fields::k_real(s);
     let im = settings::fields::k_imaginary(s);
@@ -23,7 +27,8 @@ pub fn compensation(s: &[u8]) -> Phasor
 
 // D, the line angle.
 pub fn angle(s: &[u8]) -> Phasor
-    ensures { λ r. ⌜ r ≡ angle (now (s .entry)) ⌝ }
+    requires { ⌜ Ranges (now s) ⌝ }
+    ensures { λ r. ⌜ (r ≡ angle (now (s .entry))) × Inside 1000 r ⌝ }
 {
     let re = settings::fields::angle_real(s);
     let im = settings::fields::angle_imaginary(s);

@@ -3,21 +3,115 @@ ghost use mathlib.Core.Path.{_≡_};
 ghost use mathlib.Core.List.{[], _∷_};
 ghost use Prim.Native.Nat.{_^_};
 ghost use Rattle.whole.specs.Range.{Within};
-ghost use Rattle.plane.specs.Plane.{Inside, AllInside};
+ghost use Rattle.whole.specs.Bits.{bits};
+ghost use Rattle.plane.specs.Plane.{Inside, AllInside, phasorSize};
 ghost use Rattle.settings.specs.Fields.{Ranges};
-ghost use Rattle.distance.specs.Line.{replica, compensation};
-ghost use Rattle.distance.specs.Mho.{mho, asserts, residual, ground, phase, sixOf, asserting, bits, loopBits};
-use crate::bits::front;
+ghost use Rattle.distance.specs.Sequence.{polarisingSize};
+ghost use Rattle.distance.specs.Line.{replica, compensation, Compensates};
+ghost use Rattle.distance.specs.Mho.{LoopInside, SixInside, mho, asserts, residual, kProduct, ground, phase, sixOf, loopsOf, loopBits};
 use crate::line;
 use crate::sequence;
 use plane::Phases;
 use plane::Phasor;
+use whole::bit_before;
+
+// A loop: its voltage, its current and its polarising quantity.
+pub struct Loop {
+    pub v: Phasor,
+    pub i: Phasor,
+    pub vp: Phasor,
+}
+
+// The three ground loops and the three phase loops.
+pub struct SixLoops {
+    pub ag: Loop,
+    pub bg: Loop,
+    pub cg: Loop,
+    pub ab: Loop,
+    pub bc: Loop,
+    pub ca: Loop,
+}
 
 // k is in thousandths.
 const K_SCALE: i64 = 1000;
 
-// So are Z and the reach, which comes in beside it.
+// So are Z and the reach beside it.
 const REACH_SCALE: i64 = 1000000;
+
+// Ia+Ib+Ic.
+pub fn residual(i: Phases) -> Phasor
+    requires { ⌜ AllInside phasorSize i ⌝ }
+    ensures { λ r. ⌜ (r ≡ residual i) × Inside 126000 r ⌝ }
+{
+    plane::plus(plane::plus(i.a, i.b), i.c)
+}
+
+// The k product, rounded.
+fn k_product(k: Phasor, i: Phases) -> Phasor
+    requires { ⌜ Compensates k × AllInside phasorSize i ⌝ }
+    ensures { λ r. ⌜ (r ≡ kProduct k i) × Inside 189000 r ⌝ }
+{
+    plane::rounded(plane::times(k, residual(i)), K_SCALE)
+}
+
+// A ground loop, from the phase's voltage and current, the k product and P.
+fn ground(v: Phasor, i: Phasor, k: Phasor, p: Phasor) -> Loop
+    requires { ⌜ Inside phasorSize v × Inside phasorSize i × Inside 189000 k × Inside polarisingSize p ⌝ }
+    ensures { λ r. ⌜ (r ≡ ground v i k p) × LoopInside r ⌝ }
+{
+    let with_k = plane::plus(i, k);
+    Loop {
+        v,
+        i: with_k,
+        vp: p,
+    }
+}
+
+// The loop of phases x and y, from the voltages and the currents of both, and P.
+fn phase(vx: Phasor, vy: Phasor, ix: Phasor, iy: Phasor, p: Phasor) -> Loop
+    requires { ⌜ Inside phasorSize vx × Inside phasorSize vy × Inside phasorSize ix × Inside phasorSize iy × Inside polarisingSize p ⌝ }
+    ensures { λ r. ⌜ (r ≡ phase vx vy ix iy p) × LoopInside r ⌝ }
+{
+    let v = plane::minus(vx, vy);
+    let i = plane::minus(ix, iy);
+    let vp = plane::minus_j(p);
+    Loop { v, i, vp }
+}
+
+// The six from the k product, P, aP and a²P.
+fn six(v: Phases, i: Phases, k: Phasor, p: Phasor, ap: Phasor, a2p: Phasor) -> SixLoops
+    requires { ⌜ AllInside phasorSize v × AllInside phasorSize i × Inside 189000 k × Inside polarisingSize p × Inside polarisingSize ap × Inside polarisingSize a2p ⌝ }
+    ensures { λ r. ⌜ (r ≡ sixOf v i k p ap a2p) × SixInside r ⌝ }
+{
+    let ag = ground(v.a, i.a, k, p);
+    let bg = ground(v.b, i.b, k, a2p);
+    let cg = ground(v.c, i.c, k, ap);
+    let ab = phase(v.a, v.b, i.a, i.b, ap);
+    let bc = phase(v.b, v.c, i.b, i.c, p);
+    let ca = phase(v.c, v.a, i.c, i.a, a2p);
+    SixLoops {
+        ag,
+        bg,
+        cg,
+        ab,
+        bc,
+        ca,
+    }
+}
+
+// The six loops by a good settings record, from the voltages and the currents of end 1.
+pub fn loops(s: &[u8], v: Phases, i: Phases) -> SixLoops
+    requires { ⌜ Ranges (now s) × AllInside phasorSize v × AllInside phasorSize i ⌝ }
+    ensures { λ r. ⌜ (r ≡ loopsOf (compensation (now (s .entry))) v i) × SixInside r ⌝ }
+{
+    let k = k_product(line::compensation(s), i);
+    let p = sequence::positive(v);
+    let a = sequence::a();
+    let a2 = sequence::a2();
+    let ap = sequence::turned(a, p);
+    let a2p = sequence::turned(a2, p);
+    six(v, i, k, p, ap, a2p)
+}
 
 // The mho rule at reach r.
 fn mho(r: i64, n: i64, m: i64) -> bool
@@ -27,87 +121,40 @@ fn mho(r: i64, n: i64, m: i64) -> bool
     0 < m && REACH_SCALE * n <= r * m
 }
 
-// Whether a loop asserts at reach r, from its voltage, its current and its polarising quantity.
-fn asserts(z: Phasor, r: i64, v: Phasor, i: Phasor, vp: Phasor) -> bool
-    requires { ⌜ Inside 20000 z × Within 2000 r × Inside 84000 v × Inside 231000 i × Inside 220000 vp ⌝ }
-    ensures { λ x. ⌜ x ≡ asserts z r (record { v = v; i = i; vp = vp }) ⌝ }
+// Whether a loop asserts at reach r.
+fn asserts(z: Phasor, r: i64, l: Loop) -> bool
+    requires { ⌜ Inside 20000 z × Within 2000 r × LoopInside l ⌝ }
+    ensures { λ x. ⌜ x ≡ asserts z r l ⌝ }
 {
-    let n = plane::dot(v, vp);
-    let m = plane::dot(plane::times(z, i), vp);
+    let n = plane::dot(l.v, l.vp);
+    let m = plane::dot(plane::times(z, l.i), l.vp);
     mho(r, n, m)
-}
-
-// k(Ia+Ib+Ic), rounded.
-fn residual(k: Phasor, i: Phases) -> Phasor
-    requires { ⌜ Inside (2 ^ 29) k × AllInside 42000 i ⌝ }
-    ensures { λ r. ⌜ r ≡ residual k i ⌝ }
-{
-    let sum = plane::plus(plane::plus(i.a, i.b), i.c);
-    plane::rounded(plane::times(k, sum), K_SCALE)
-}
-
-// Whether a ground loop asserts: its phase's voltage and current, the residual and P.
-fn ground(z: Phasor, r: i64, v: Phasor, i: Phasor, kr: Phasor, p: Phasor) -> bool
-    requires { ⌜ Inside 20000 z × Within 2000 r × Inside 42000 v × Inside 42000 i × Inside 189000 kr × Inside 220000 p ⌝ }
-    ensures { λ x. ⌜ x ≡ asserts z r (ground v i kr p) ⌝ }
-{
-    asserts(z, r, v, plane::plus(i, kr), p)
-}
-
-// Whether a phase loop asserts: the voltages v, w and the currents i, j of its two phases, and P.
-fn phase(z: Phasor, r: i64, v: Phasor, w: Phasor, i: Phasor, j: Phasor, p: Phasor) -> bool
-    requires { ⌜ Inside 20000 z × Within 2000 r × Inside 42000 v × Inside 42000 w × Inside 42000 i × Inside 42000 j × Inside 220000 p ⌝ }
-    ensures { λ x. ⌜ x ≡ asserts z r (phase v w i j p) ⌝ }
-{
-    asserts(
-        z,
-        r,
-        plane::minus(v, w),
-        plane::minus(i, j),
-        plane::minus_j(p),
-    )
 }
 
 // The bits of six loops: AG 1, BG 2, CG 4, AB 8, BC 16, CA 32.
 fn bits(ag: bool, bg: bool, cg: bool, ab: bool, bc: bool, ca: bool) -> u8
     ensures { λ x. ⌜ x ≡ bits (ag ∷ bg ∷ cg ∷ ab ∷ bc ∷ ca ∷ []) ⌝ }
 {
-    front(ag, front(bg, front(cg, front(ab, front(bc, front(ca, 0))))))
-}
-
-// The bits of the six loops at reach r, from the voltages and currents of end 1, the residual, P, aP and a²P.
-fn six(
-    z: Phasor,
-    r: i64,
-    v: Phases,
-    i: Phases,
-    kr: Phasor,
-    p: Phasor,
-    ap: Phasor,
-    a2p: Phasor,
-) -> u8
-    requires { ⌜ Inside 20000 z × Within 2000 r × AllInside 42000 v × AllInside 42000 i × Inside 189000 kr × Inside 220000 p × Inside 220000 ap × Inside 220000 a2p ⌝ }
-    ensures { λ x. ⌜ x ≡ bits (asserting z r (sixOf v i kr p ap a2p)) ⌝ }
-{
-    let ag = ground(z, r, v.a, i.a, kr, p);
-    let bg = ground(z, r, v.b, i.b, kr, a2p);
-    let cg = ground(z, r, v.c, i.c, kr, ap);
-    let ab = phase(z, r, v.a, v.b, i.a, i.b, ap);
-    let bc = phase(z, r, v.b, v.c, i.b, i.c, p);
-    let ca = phase(z, r, v.c, v.a, i.c, i.a, a2p);
-    bits(ag, bg, cg, ab, bc, ca)
+    bit_before(
+        ag,
+        bit_before(
+            bg,
+            bit_before(cg, bit_before(ab, bit_before(bc, bit_before(ca, 0)))),
+        ),
+    )
 }
 
 // The six loop bits at reach r, by a good settings record.
-pub fn loop_bits(s: &[u8], r: i64, v: Phases, i: Phases) -> u8
-    requires { ⌜ Ranges (now s) × Within 2000 r × AllInside 42000 v × AllInside 42000 i ⌝ }
-    ensures { λ x. ⌜ x ≡ loopBits (replica (now (s .entry))) (compensation (now (s .entry))) r v i ⌝ }
+pub fn bits_at(s: &[u8], r: i64, l: SixLoops) -> u8
+    requires { ⌜ Ranges (now s) × Within 2000 r × SixInside l ⌝ }
+    ensures { λ x. ⌜ x ≡ loopBits (replica (now (s .entry))) r l ⌝ }
 {
-    let kr = residual(line::compensation(s), i);
-    let p = sequence::positive(v);
-    let a = sequence::a();
-    let a2 = sequence::a2();
-    let ap = sequence::turned(a, p);
-    let a2p = sequence::turned(a2, p);
-    six(line::replica(s), r, v, i, kr, p, ap, a2p)
+    let z = line::replica(s);
+    let ag = asserts(z, r, l.ag);
+    let bg = asserts(z, r, l.bg);
+    let cg = asserts(z, r, l.cg);
+    let ab = asserts(z, r, l.ab);
+    let bc = asserts(z, r, l.bc);
+    let ca = asserts(z, r, l.ca);
+    bits(ag, bg, cg, ab, bc, ca)
 }

@@ -1,8 +1,7 @@
 // Sequence quantities, source document 002: 3V1, 3V2 and 3I2, formed at scale 16384 and rounded by it.
 ghost use mathlib.Core.Path.{_≡_};
-ghost use Prim.Native.Nat.{_^_};
-ghost use Rattle.plane.specs.Plane.{Inside, AllInside};
-ghost use Rattle.distance.specs.Sequence.{a, a², turned, sequence, positive, negative};
+ghost use Rattle.plane.specs.Plane.{Inside, AllInside, phasorSize};
+ghost use Rattle.distance.specs.Sequence.{sequenceSize, polarisingSize, a, a², Turn, turned, sequence, positive, negative};
 use plane::Phases;
 use plane::Phasor;
 
@@ -11,7 +10,7 @@ const SCALE: i64 = 16384;
 
 // a, a third of a turn forward.
 pub fn a() -> Phasor
-    ensures { λ r. ⌜ r ≡ a ⌝ }
+    ensures { λ r. ⌜ (r ≡ a) × Turn r ⌝ }
 {
     Phasor {
         re: -8192,
@@ -21,7 +20,7 @@ pub fn a() -> Phasor
 
 // a², its conjugate.
 pub fn a2() -> Phasor
-    ensures { λ r. ⌜ r ≡ a² ⌝ }
+    ensures { λ r. ⌜ (r ≡ a²) × Turn r ⌝ }
 {
     Phasor {
         re: -8192,
@@ -31,16 +30,16 @@ pub fn a2() -> Phasor
 
 // f p for f = a or a², rounded.
 pub fn turned(f: Phasor, p: Phasor) -> Phasor
-    requires { ⌜ Inside (2 ^ 30) f × Inside (2 ^ 30) p ⌝ }
-    ensures { λ r. ⌜ r ≡ turned f p ⌝ }
+    requires { ⌜ Turn f × Inside sequenceSize p ⌝ }
+    ensures { λ r. ⌜ (r ≡ turned f p) × Inside polarisingSize r ⌝ }
 {
     plane::rounded(plane::times(f, p), SCALE)
 }
 
 // xa + f xb + g xc, rounded.
 fn sequence(f: Phasor, g: Phasor, x: Phases) -> Phasor
-    requires { ⌜ Inside (2 ^ 29) f × Inside (2 ^ 29) g × AllInside (2 ^ 29) x ⌝ }
-    ensures { λ r. ⌜ r ≡ sequence f g x ⌝ }
+    requires { ⌜ Turn f × Turn g × AllInside phasorSize x ⌝ }
+    ensures { λ r. ⌜ (r ≡ sequence f g x) × Inside sequenceSize r ⌝ }
 {
     let first = plane::scaled(SCALE, x.a);
     let second = plane::times(f, x.b);
@@ -50,16 +49,16 @@ fn sequence(f: Phasor, g: Phasor, x: Phases) -> Phasor
 
 // 3V1.
 pub fn positive(v: Phases) -> Phasor
-    requires { ⌜ AllInside 42000 v ⌝ }
-    ensures { λ r. ⌜ (r ≡ positive v) × Inside 160000 r ⌝ }
+    requires { ⌜ AllInside phasorSize v ⌝ }
+    ensures { λ r. ⌜ (r ≡ positive v) × Inside sequenceSize r ⌝ }
 {
     sequence(a(), a2(), v)
 }
 
 // 3V2 or 3I2.
 pub fn negative(i: Phases) -> Phasor
-    requires { ⌜ AllInside 42000 i ⌝ }
-    ensures { λ r. ⌜ (r ≡ negative i) × Inside 160000 r ⌝ }
+    requires { ⌜ AllInside phasorSize i ⌝ }
+    ensures { λ r. ⌜ (r ≡ negative i) × Inside sequenceSize r ⌝ }
 {
     sequence(a2(), a(), i)
 }

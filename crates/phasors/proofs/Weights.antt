@@ -2,19 +2,22 @@
 -- So the weights of a table bound the sums, and with the divisor the phasor, whatever is measured.
 use mathlib.Core.Path.{_≡_, refl, sym, ap, _∙_}
 use mathlib.Core.List.{List}
-use Prim.Native.Nat.{ℕ, _+_, _*_, _/_, _^_, _≤_}
+use Prim.Native.Nat.{ℕ, _+_, _*_, _/_, _%_, _^_, _≤_}
 use native.Mathlib.Numerals.{add-one}
 use native.Mathlib.Omega.{arith}
 use lib.Dec.{T, leb, ltb}
 use lib.IntN.{ℤ, pos, natAbs, _+ℤ_}
 use lib.ListN.{length}
 use Rattle.whole.specs.Range.{Within}
+use Rattle.whole.specs.Round.{Rounded}
 use Rattle.whole.proofs.Size.{neg, add, sub, mul, lit}
 use Rattle.plane.specs.declared.Phasor.{Phasor}
-use Rattle.plane.specs.Plane.{Inside, zero, rounded}
+use Rattle.plane.specs.Plane.{Inside, phasorSize, zero, rounded}
 use Rattle.plane.proofs.Bounds.{inside-rounded, inside-wider}
+use Rattle.plane.proofs.Laws.{rounded-is}
+use Rattle.samples.specs.Window.{frames}
 use Rattle.phasors.specs.Rate.{Rate, cosine, sine, sixteen}
-use Rattle.phasors.specs.Sums.{withSample, sumTo, weight, Summed, phasorOf}
+use Rattle.phasors.specs.Sums.{withSample, sumTo, weight, Summed, exact, phasorOf}
 
 pub sum-next :
     (table : List ℤ) (shift : ℕ) (x : ℕ → ℤ) (n : ℕ) →
@@ -69,7 +72,7 @@ pub record Measures (rate : Rate) (most : ℕ) : Type 0 where
   pub real : weight (cosine (rate .cosines)) (length (rate .cosines)) ≤ most
   pub imag : weight (sine (rate .cosines) (rate .shift)) (length (rate .cosines)) ≤ most
   pub above : T (ltb 0 (rate .divisor))
-  pub small : T (leb ((32768 * most + rate .divisor / 2) / rate .divisor) 42000)
+  pub small : T (leb ((32768 * most + rate .divisor / 2) / rate .divisor) phasorSize)
 
 pub inside-cycle :
     {rate : Rate} {most : ℕ} {x : ℕ → ℤ} {sums : Phasor} → Measures rate most → Cycle rate x sums → Inside (32768 * most) sums
@@ -81,12 +84,28 @@ inside-cycle m h = record {
 -- rounded, they are the phasor
 pub rounded-cycle :
     {rate : Rate} {most : ℕ} {x : ℕ → ℤ} {sums : Phasor} → Measures rate most → Cycle rate x sums →
-    (rounded (rate .divisor) sums ≡ phasorOf rate x) × Inside 42000 (rounded (rate .divisor) sums)
+    (rounded (rate .divisor) sums ≡ phasorOf rate x) × Inside phasorSize (rounded (rate .divisor) sums)
 unfolding phasorOf
 rounded-cycle {rate} m h = (
   ap (rounded (rate .divisor)) (h .summed),
   inside-wider (inside-rounded (rate .divisor) (m .above) (inside-cycle m h)) (m .small),
 )
+
+-- each component of a phasor is document 01's one whole number, for a rate with an even divisor
+pub phasor-is :
+    (rate : Rate) (x : ℕ → ℤ) → T (ltb 0 (rate .divisor)) → rate .divisor % 2 ≡ 0 →
+    Rounded (rate .divisor) (exact rate x .re) (phasorOf rate x .re) × Rounded (rate .divisor) (exact rate x .im) (phasorOf rate x .im)
+unfolding phasorOf
+phasor-is rate x t even = rounded-is (rate .divisor) t even (exact rate x)
+
+-- ---- sixteen samples a cycle
+
+pub sixteen-is : (x : ℕ → ℤ) → Rounded 131072 (exact sixteen x .re) (phasorOf sixteen x .re) × Rounded 131072 (exact sixteen x .im) (phasorOf sixteen x .im)
+sixteen-is x = phasor-is sixteen x tt refl
+
+-- a sample for each frame
+pub sixteen-frames : length (sixteen .cosines) ≡ frames
+sixteen-frames = refl
 
 -- 32768 times 164736, rounded by 131072, is 41184
 pub sixteen-measures : Measures sixteen 164736

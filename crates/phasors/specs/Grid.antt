@@ -27,7 +27,11 @@ voltagesOf rate w ends = record { a = voltage rate w ends 0; b = voltage rate w 
 abbrev pub cell : List (List Phasor) → ℕ → ℕ → Phasor
 cell g p e = getD (getD g p []) e plane.zero
 
--- Ia, Ib, Ic of end 1
+-- Ia, Ib, Ic of end 1, in a window
+abbrev pub localCurrents : Rate → List ℤ → ℕ → Phases
+localCurrents rate w ends = record { a = current rate w ends 0 0; b = current rate w ends 1 0; c = current rate w ends 2 0 }
+
+-- and in a grid
 abbrev pub localOf : List (List Phasor) → Phases
 localOf g = record { a = cell g 0 0; b = cell g 1 0; c = cell g 2 0 }
 
@@ -39,4 +43,4 @@ total f (suc n) = plane.plus (total f n) (f n)
 -- A grid filled from a window: at each phase and end of the line stands that phase's current there, and within 42000 of zero.
 pub record Filled (rate : Rate) (w : List ℤ) (ends : ℕ) (g : List (List Phasor)) : Type 0 where
   pub measured : (p e : ℕ) → p < 3 → e < ends → cell g p e ≡ current rate w ends p e
-  pub inside : (p e : ℕ) → p < 3 → e < ends → plane.Inside 42000 (cell g p e)
+  pub inside : (p e : ℕ) → p < 3 → e < ends → plane.Inside plane.phasorSize (cell g p e)

@@ -2,7 +2,7 @@
 ghost use mathlib.Core.Path.{_≡_};
 ghost use Prim.Native.Nat.{ℕ, _*_, _<_, _≤_, _^_};
 ghost use lib.ListN.{length};
-ghost use Rattle.plane.specs.Plane.{Inside, AllInside};
+ghost use Rattle.plane.specs.Plane.{Inside, AllInside, phasorSize};
 ghost use Rattle.samples.specs.Window.{windowLength};
 ghost use Rattle.phasors.specs.Rate.{cosines, sixteen};
 ghost use Rattle.phasors.specs.Sums.{sample, withSample, Summed, phasorOf};
@@ -73,7 +73,7 @@ fn sums(window: &[i16], channels: usize, channel: usize, table: &[i16], shift: u
 // The phasor of a channel.
 pub fn measure(window: &[i16], channels: usize, channel: usize) -> Phasor
     requires { ⌜ (channel < channels) × (16 * channels ≤ length (now window)) ⌝ }
-    ensures { λ r. ⌜ (r ≡ phasorOf sixteen (sample (now (window .entry)) channels channel)) × Inside 42000 r ⌝ }
+    ensures { λ r. ⌜ (r ≡ phasorOf sixteen (sample (now (window .entry)) channels channel)) × Inside phasorSize r ⌝ }
 {
     let table = cosines();
     plane::rounded(sums(window, channels, channel, &table, SHIFT), DIVISOR)
@@ -82,7 +82,7 @@ pub fn measure(window: &[i16], channels: usize, channel: usize) -> Phasor
 // Va, Vb, Vc.
 pub fn voltages(window: &[i16], ends: usize) -> Phases
     requires { ⌜ (ends ≤ 6) × (windowLength ends ≤ length (now window)) ⌝ }
-    ensures { λ r. ⌜ (r ≡ voltagesOf sixteen (now (window .entry)) ends) × AllInside 42000 r ⌝ }
+    ensures { λ r. ⌜ (r ≡ voltagesOf sixteen (now (window .entry)) ends) × AllInside phasorSize r ⌝ }
 {
     let channels = samples::channels(ends);
     let a = measure(window, channels, 0);
@@ -118,7 +118,7 @@ pub fn local(grid: [[Phasor; 6]; 3]) -> Phases
 
 // The currents of one phase, summed over the ends.
 pub fn sum_phase(grid: [[Phasor; 6]; 3], p: usize, ends: usize) -> Phasor
-    requires { ⌜ (p < 3) × (ends ≤ 6) × ((e : ℕ) → e < ends → Inside 42000 (cell grid p e)) ⌝ }
+    requires { ⌜ (p < 3) × (ends ≤ 6) × ((e : ℕ) → e < ends → Inside phasorSize (cell grid p e)) ⌝ }
     ensures { λ r. ⌜ (r ≡ total (cell grid p) ends) × Inside 252000 r ⌝ }
 {
     let mut sum = Phasor { re: 0, im: 0 };

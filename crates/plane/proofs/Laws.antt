@@ -1,11 +1,16 @@
--- What the operations mean: Re(p q*) is the real part of that product, -j is the complex number (0, -1), and a square is not negative.
-use mathlib.Core.Path.{_≡_}
+-- What the operations mean: Re(p q*) is the real part of that product, -j is the complex number (0, -1), a square is not negative, and each
+-- component is rounded as document 01 says.
+use mathlib.Core.Path.{_≡_, refl}
+use Prim.Native.Nat.{ℕ, _%_}
+use lib.Dec.{T, ltb, ltb→lt}
 use mathlib.Core.List.{[], _∷_}
 use lib.IntN.{pos, negℤ}
 use lib.Signed.{_≤ℤ_}
 use Rattle.whole.proofs.Certificate.{quo, ring!, le!, g-sq, _⊞_}
+use Rattle.whole.specs.Round.{Rounded}
+use Rattle.whole.proofs.Rounding.{round-is, round-zero}
 use Rattle.plane.specs.declared.Phasor.{Phasor}
-use Rattle.plane.specs.Plane.{times, conjugate, minusJ, dot, squared, zero}
+use Rattle.plane.specs.Plane.{times, rounded, conjugate, minusJ, dot, squared, zero}
 
 pub dot-is : (p q : Phasor) → dot p q ≡ times p (conjugate q) .re
 unfolding dot times
@@ -33,3 +38,16 @@ times-zero p =
     let re : times p zero .re ≡ pos 0 = ring! (p .re ∷ p .im ∷ []) (search quo depth 40) tt in
     let im : times p zero .im ≡ pos 0 = ring! (p .re ∷ p .im ∷ []) (search quo depth 40) tt in
     λ i. record { re = re i; im = im i }
+
+pub rounded-zero : (d : ℕ) → T (ltb 0 d) → rounded d zero ≡ zero
+unfolding rounded
+rounded-zero d t = let z = round-zero d (ltb→lt 0 d t) in λ i. record { re = z i; im = z i }
+
+pub minus-j-zero : minusJ zero ≡ zero
+unfolding minusJ
+minus-j-zero = refl
+
+-- each component of a rounded number is document 01's one whole number
+pub rounded-is : (d : ℕ) → T (ltb 0 d) → d % 2 ≡ 0 → (p : Phasor) → Rounded d (p .re) (rounded d p .re) × Rounded d (p .im) (rounded d p .im)
+unfolding rounded
+rounded-is d t even p = let above = ltb→lt 0 d t in (round-is d above even (p .re), round-is d above even (p .im))

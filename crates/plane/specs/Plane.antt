@@ -17,6 +17,10 @@ pub record AllInside (b : ℕ) (v : Phases) : Type 0 where
   pub inside-b : Inside b (v .b)
   pub inside-c : Inside b (v .c)
 
+-- "Every component then lies within 42000 of zero."
+abbrev pub phasorSize : ℕ
+phasorSize = 42000
+
 -- 0
 abbrev pub zero : Phasor
 zero = record { re = pos 0; im = pos 0 }

@@ -93,6 +93,7 @@ pub first-in-order : (m : ℕ) (w : List ℤ) (f c : ℕ) → c < m → firstMis
 first-in-order m w f c h e =
     let p = first-at w (f * m + c) e in
     record {
+      in-frame = h;
       there = p .1;
       earlier-frame = λ g d i l. p .2 (g * m + d) (omega (arith, earlier m g d f i l));
       earlier-channel = λ d l. p .2 (f * m + d) (omega arith);

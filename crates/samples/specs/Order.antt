@@ -23,6 +23,7 @@ Finds w Nothing = Present w (length w)
 
 -- In frames of m channels: channel c of frame f is missing, none of an earlier frame is, and none of an earlier channel of that frame.
 pub record FirstInOrder (m : ℕ) (w : List ℤ) (f c : ℕ) : Type 0 where
+  pub in-frame : c < m
   pub there : Missing w (f * m + c)
   pub earlier-frame : (g d : ℕ) → g < f → d < m → Missing w (g * m + d) → ⊥
   pub earlier-channel : (d : ℕ) → d < c → Missing w (f * m + d) → ⊥

@@ -3,7 +3,7 @@ ghost use mathlib.Core.Path.{_≡_};
 ghost use Prim.Native.Nat.{_+_, _*_, _/_, _≤_};
 ghost use lib.ListN.{length, take};
 ghost use Rattle.whole.specs.TwosComplement.{signed};
-ghost use Rattle.samples.specs.Window.{frames, channels, windowLength, numbersOf, firstMissing};
+ghost use Rattle.samples.specs.Window.{channels, windowLength, numbersOf, firstMissing};
 
 // How many frames a window has: one cycle.
 pub const FRAMES: usize = 16;
@@ -54,12 +54,12 @@ pub fn numbers(bytes: &[u8]) -> [i16; LONGEST]
 }
 
 // The first missing sample of a window, frame by frame, and in a frame channel by channel.
-pub fn first_missing(window: &[i16], channels: usize) -> Found
+pub fn first_missing(window: &[i16], frames: usize, channels: usize) -> Found
     requires { ⌜ length (now window) ≡ frames * channels ⌝ }
     ensures { λ r. ⌜ r ≡ firstMissing (now (window .entry)) ⌝ }
 {
     let mut found = Found::Nothing;
-    'search: for f in 0..FRAMES {
+    'search: for f in 0..frames {
         for c in 0..channels {
             let at = f * channels + c;
             let x = window[at];

@@ -2,7 +2,7 @@
 // alone, and never part of the library. What is proved here is that a good record and a window of its length meet what the layers
 // require; what they give is in their own contracts.
 ghost use Rattle.whole.specs.Range.{Within};
-ghost use Rattle.plane.specs.Plane.{AllInside};
+ghost use Rattle.plane.specs.Plane.{AllInside, phasorSize};
 ghost use Rattle.settings.specs.Fields.{Ranges};
 use plane::Phases;
 use plane::Phasor;
@@ -10,8 +10,8 @@ use plane::Phasor;
 // The number at a place of big-endian bytes, or 0 past the longest window.
 #[no_mangle]
 pub extern "C" fn trial_number(bytes: &[u8], at: u64) -> i16 {
-    if bytes.len() <= 672 {
-        if at < 336 {
+    if bytes.len() <= 2 * samples::LONGEST {
+        if at < samples::LONGEST as u64 {
             let window = samples::numbers(bytes);
             return window[at as usize];
         }
@@ -25,7 +25,7 @@ pub extern "C" fn trial_missing(window: &[i16], ends: u64) -> u64 {
     if ends <= 6 {
         let n = samples::channels(ends as usize);
         if window.len() == samples::FRAMES * n {
-            return match samples::first_missing(window, n) {
+            return match samples::first_missing(window, samples::FRAMES, n) {
                 samples::Found::Nothing => 65535,
                 samples::Found::At(k) => k as u64,
             };
@@ -69,9 +69,9 @@ pub extern "C" fn trial_total(window: &[i16], ends: u64, phase: u64, which: u64)
 }
 
 // What is measured at end 1, by a good record: 0 and 1 for 3V1, 2 and 3 for 3V2, 4 and 5 for 3I2, 6 whether 3I2 reaches its pickup, 7 the
-// direction, 8 the loop bits at reach r, which is from 1 to 2000.
+// direction, 8 the loop bits at reach r, which is up to 2000.
 fn quantity(s: &[u8], r: i64, v: Phases, i: Phases, which: u64) -> i64
-    requires { ⌜ Ranges (now s) × Within 2000 r × AllInside 42000 v × AllInside 42000 i ⌝ }
+    requires { ⌜ Ranges (now s) × Within 2000 r × AllInside phasorSize v × AllInside phasorSize i ⌝ }
 {
     if which < 2 {
         return part(distance::sequence::positive(v), which);
@@ -85,17 +85,16 @@ fn quantity(s: &[u8], r: i64, v: Phases, i: Phases, which: u64) -> i64
         return part(i2, which - 4);
     }
     if which == 6 {
-        let pickup = settings::fields::negative_pickup(s);
-        return if distance::direction::reaches_pickup(pickup, i2) {
+        return if distance::direction::reaches_pickup(s, i2) {
             1
         } else {
             0
         };
     }
     if which == 7 {
-        return distance::direction::number(distance::direction::by_settings(s, v2, i2)) as i64;
+        return distance::direction::number(distance::direction::of_fault(s, v2, i2)) as i64;
     }
-    distance::mho::loop_bits(s, r, v, i) as i64
+    distance::mho::bits_at(s, r, distance::mho::loops(s, v, i)) as i64
 }
 
 // The same of a window, for a record that the check finds good.

@@ -1,9 +1,9 @@
 -- Rounding by d, proved once over d: the rule of document 01 has exactly one number, `roundBy` computes it,
 -- and how far off and how large it is follows from `Near` alone.
-use mathlib.Core.Path.{_≡_}
+use mathlib.Core.Path.{_≡_, ap}
 use mathlib.Core.List.{[], _∷_}
 use Prim.Native.Nat.{ℕ, _+_, _/_, _%_, _≤_, _<_}
-use native.Mathlib.Nat.{div-add-mod, mod-lt, le-div-iff-mul-le}
+use native.Mathlib.Nat.{div-add-mod, mod-lt, le-div-iff-mul-le, div-eq-of-lt}
 use native.Mathlib.Omega.{arith}
 use lib.IntN.{ℤ, pos, negsuc, _+ℤ_, _-ℤ_, _*ℤ_}
 use lib.Signed.{_≤ℤ_, _<ℤ_, shrZ}
@@ -60,6 +60,11 @@ round-unique {d} {A} r t = ≤-antisym (at-most r t) (at-most t r)
         let half : d / 2 + d / 2 ≤ d = omega arith in
         ≤-unless y z
         (λ k. false! (pos d ∷ h ∷ A ∷ y ∷ z ∷ []) (g-le (r .low) ⊞ g-lt (t .high) ⊞ g-num d ⊠ g-lt k ⊞ g-le (le-ℤ half)) (search quo depth 40) tt)
+
+-- 0 is rounded to 0
+pub round-zero : (d : ℕ) → 0 < d → roundBy d (pos 0) ≡ pos 0
+unfolding roundBy
+round-zero d p = ap pos (div-eq-of-lt (omega arith))
 
 -- ---- what `Near` alone tells
 

@@ -1,6 +1,7 @@
-// Whole-number arithmetic of the relay: rounding by a divisor, and the root rounded down and up.
+// Whole-number arithmetic of the relay: rounding by a divisor, the root rounded down and up, and yes and no as bits.
 ghost use mathlib.Core.Path.{_≡_};
-ghost use Prim.Native.Nat.{_*_, _<_, _≤_, _^_};
+ghost use mathlib.Core.Bool.{cond};
+ghost use Prim.Native.Nat.{_+_, _*_, _<_, _≤_, _^_};
 ghost use lib.IntN.{pos, natAbs, _-ℤ_, _*ℤ_};
 ghost use lib.Signed.{_<ℤ_, shrZ};
 ghost use Rattle.whole.specs.Range.{Within};
@@ -63,4 +64,12 @@ pub fn root_up(x: u64) -> u64
 {
     let r = floor_root(x);
     if r * r < x { r + 1 } else { r }
+}
+
+// One bit in front of others, which then weigh twice as much.
+pub fn bit_before(x: bool, rest: u8) -> u8
+    requires { ⌜ rest ≤ 127 ⌝ }
+    ensures { λ r. ⌜ (r ≡ cond x 1 0 + 2 * rest) × (r ≤ 1 + 2 * rest) ⌝ }
+{
+    if x { 1 + 2 * rest } else { 2 * rest }
 }

@@ -13,7 +13,6 @@ use mir.Syntax.{w16}
 use mir.Val.{toZ, ofZ}
 use mir.Facts.{toZ-ofZ}
 use Rattle.samples.specs.declared.Found.the-variants.{Nothing, At}
-use Rattle.samples.specs.Window.{frames}
 use Rattle.samples.specs.Order.{Missing, Present}
 use Rattle.samples.proofs.Missing.{earlier, is-first}
 use Rattle.samples.proofs.first_missing.Statement.{statement}
@@ -24,16 +23,16 @@ present-at : (w : List ℤ) {m n : ℕ} → m ≡ n → Present w m → Present 
 present-at w e h = rw (← e) h
 
 abbrev Inv-loop : tie.InvT-loop
-Inv-loop window channels found₀ f c₀ found c = (c ≤ channels) × (found ≡ Nothing) × Present window (f * channels + c)
+Inv-loop window frames channels found₀ f c₀ found c = (c ≤ channels) × (found ≡ Nothing) × Present window (f * channels + c)
 
 abbrev μ-loop : tie.MeasureT-loop
-μ-loop window channels found₀ f c₀ found c = channels - c
+μ-loop window frames channels found₀ f c₀ found c = channels - c
 
 abbrev Inv-search : tie.InvT-search
-Inv-search window channels found₀ f₀ found f = (f ≤ frames) × (found ≡ Nothing) × Present window (f * channels)
+Inv-search window frames channels found₀ f₀ found f = (f ≤ frames) × (found ≡ Nothing) × Present window (f * channels)
 
 abbrev μ-search : tie.MeasureT-search
-μ-search window channels found₀ f₀ found f = frames - f
+μ-search window frames channels found₀ f₀ found f = frames - f
 
 search-holds : tie.Need-search-holds Inv-loop μ-loop Inv-search μ-search
 search-holds c = search needs
@@ -49,7 +48,7 @@ inside :
     c .before .before .before .search .f * c .before .before .before .before .args .channels + c .before .loop .c < length (now (c .before .before .before .before .args .window))
 inside c =
     let s = c .before .before .before in
-    omega (arith, s .before .pre, earlier (s .before .args .channels) (s .search .f) (c .before .loop .c) frames (omega arith) (omega arith))
+    omega (arith, s .before .pre, earlier (s .before .args .channels) (s .search .f) (c .before .loop .c) (s .before .args .frames) (omega arith) (omega arith))
 
 mul-at : tie.Need-mul-at Inv-loop μ-loop Inv-search μ-search
 mul-at c = omega (arith, inside c)
@@ -94,7 +93,7 @@ search-again c =
 returns : tie.Need-returns Inv-loop μ-loop Inv-search μ-search
 returns c =
     let s = c .before in
-    let done : s .search .f ≡ frames = omega arith in
+    let done : s .search .f ≡ s .before .args .frames = omega arith in
     let w : List ℤ = now (s .before .args .window) in
     s .search .inv .1 ∙ is-first w Nothing (present-at w (rw done (sym (s .before .pre))) (s .search .inv .2))
 

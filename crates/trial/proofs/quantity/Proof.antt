@@ -1,8 +1,6 @@
 -- `trial::quantity` meets what the layers require. Assumes nothing.
 use borrow.Author.Needs.{needs}
-use Rattle.whole.proofs.Machine.{back}
-use Rattle.whole.proofs.Size.{along}
-use Rattle.distance.proofs.Sizes.{pickup-within}
+use mir.Facts.{toZ-ofZ}
 use Rattle.trial.proofs.quantity.Statement.{statement}
 use Rattle.trial.proofs.quantity.Tie as tie
 
@@ -33,14 +31,8 @@ part-requires-3 c κs = search needs
 returns-3 : tie.Need-returns-3
 returns-3 c = search needs
 
-negative-pickup-requires : tie.Need-negative-pickup-requires
-negative-pickup-requires c κs = search needs
-
 reaches-pickup-requires : tie.Need-reaches-pickup-requires
-reaches-pickup-requires c κs =
-    let p = c .negative-pickup in
-    let q = c .before .before .before in
-    simp (back (p .result) (p .ok)) (along (p .ensures) (pickup-within (q .before .before .before .before .before .pre .0)), q .negative2 .ensures .1)
+reaches-pickup-requires c κs = search needs
 
 returns-4 : tie.Need-returns-4
 returns-4 c = search needs
@@ -48,8 +40,8 @@ returns-4 c = search needs
 returns-5 : tie.Need-returns-5
 returns-5 c = search needs
 
-by-settings-requires : tie.Need-by-settings-requires
-by-settings-requires c κs = search needs
+of-fault-requires : tie.Need-of-fault-requires
+of-fault-requires c κs = search needs
 
 number-requires : tie.Need-number-requires
 number-requires c κs = search needs
@@ -60,8 +52,13 @@ cast-result c = search needs
 returns-6 : tie.Need-returns-6
 returns-6 c = search needs
 
-loop-bits-requires : tie.Need-loop-bits-requires
-loop-bits-requires c κs = search needs
+loops-requires : tie.Need-loops-requires
+loops-requires c κs = search needs
+
+bits-at-requires : tie.Need-bits-at-requires
+bits-at-requires c κs =
+    let s = c .before .before .before .before .before .before .before .before .before in
+    simp (toZ-ofZ (s .fits .r)) (s .pre .0, s .pre .1, c .loops .ensures .1)
 
 cast-result-2 : tie.Need-cast-result-2
 cast-result-2 c = search needs
@@ -82,14 +79,14 @@ quantity-spec =
     negative-requires-2
     part-requires-3
     returns-3
-    negative-pickup-requires
     reaches-pickup-requires
     returns-4
     returns-5
-    by-settings-requires
+    of-fault-requires
     number-requires
     cast-result
     returns-6
-    loop-bits-requires
+    loops-requires
+    bits-at-requires
     cast-result-2
     returns-7)

@@ -1,16 +1,15 @@
 -- `trial::trial_distance` meets what the layers require: a good record is in range, and so are the phasors of a window of its length. Assumes
 -- nothing.
 use mathlib.Core.Path.{sym, _∙_}
-use Prim.Native.Nat.{ℕ, _<_, _≤_}
+use Prim.Native.Nat.{_<_, _≤_}
 use native.Mathlib.Omega.{arith}
 use borrow.Author.Needs.{needs}
 use denote.Ref.{now}
 use mir.Syntax.{w64}
 use mir.Facts.{toZ-pos}
-use Rattle.plane.specs.Plane.{Inside}
 use Rattle.settings.specs.Fields.{Ranges}
 use Rattle.settings.proofs.Good.{ranges}
-use Rattle.phasors.specs.Grid.{cell}
+use Rattle.phasors.proofs.Totals.{filled-local}
 use Rattle.trial.proofs.trial_distance.Statement.{statement}
 use Rattle.trial.proofs.trial_distance.Tie as tie
 
@@ -53,12 +52,11 @@ quantity-requires c κs =
     let v = c .before .before in
     let k = v .before .before .before .before in
     let t = k .before .before in
-    let g = c .before .currents .ensures in
-    let here : (p : ℕ) → p < 3 → Inside 42000 (cell (c .before .currents .result) p 0) = λ p l. g .inside p 0 l (few k .0) in (
+    let local = filled-local (c .before .currents .ensures) (few k .0) in (
       in-range (k .before),
       simp (toZ-pos w64 {n = t .before .before .before .args .r} (omega (arith, v .before .if2 .taken))) (record { size = v .before .if2 .taken }),
       v .voltages .ensures .1,
-      rw (c .local .ensures) (record { inside-a = here 0 (omega arith); inside-b = here 1 (omega arith); inside-c = here 2 (omega arith) }),
+      rw (c .local .ensures) (local .1),
     )
 
 returns : tie.Need-returns

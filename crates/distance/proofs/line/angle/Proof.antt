@@ -1,6 +1,10 @@
--- `distance::line::angle` meets its contract: D is its two fields. Assumes nothing.
+-- `distance::line::angle` meets its contract: D is its two fields, which are in range. Assumes nothing.
+use mathlib.Core.Path.{refl}
 use borrow.Author.Needs.{needs}
+use denote.Ref.{now}
 use Rattle.plane.proofs.Made.{made}
+use Rattle.distance.specs.Line.{angle}
+use Rattle.distance.proofs.Sizes.{angle-inside}
 use Rattle.distance.proofs.line.angle.Statement.{statement}
 use Rattle.distance.proofs.line.angle.Tie as tie
 
@@ -14,7 +18,7 @@ returns : tie.Need-returns
 returns c =
     let re = c .before .angle-real in
     let im = c .angle-imaginary in
-    made _ (re .ok) (im .ok) (re .ensures) (im .ensures)
+    rw (made (angle (now (c .before .before .before .args .s))) (re .ok) (im .ok) (re .ensures) (im .ensures)) (refl, angle-inside (c .before .before .before .pre))
 
 pub angle-spec : {M : Type 1} → statement M
 angle-spec = tie.close (tie.spec angle-real-requires angle-imaginary-requires returns)

@@ -1,6 +1,10 @@
--- `distance::line::compensation` meets its contract: k is its two fields. Assumes nothing.
+-- `distance::line::compensation` meets its contract: k is its two fields, which are in range. Assumes nothing.
+use mathlib.Core.Path.{refl}
 use borrow.Author.Needs.{needs}
+use denote.Ref.{now}
 use Rattle.plane.proofs.Made.{made}
+use Rattle.distance.specs.Line.{compensation}
+use Rattle.distance.proofs.Sizes.{compensation-inside}
 use Rattle.distance.proofs.line.compensation.Statement.{statement}
 use Rattle.distance.proofs.line.compensation.Tie as tie
 
@@ -14,7 +18,7 @@ returns : tie.Need-returns
 returns c =
     let re = c .before .k-real in
     let im = c .k-imaginary in
-    made _ (re .ok) (im .ok) (re .ensures) (im .ensures)
+    rw (made (compensation (now (c .before .before .before .args .s))) (re .ok) (im .ok) (re .ensures) (im .ensures)) (refl, compensation-inside (c .before .before .before .pre))
 
 pub compensation-spec : {M : Type 1} → statement M
 compensation-spec = tie.close (tie.spec k-real-requires k-imaginary-requires returns)

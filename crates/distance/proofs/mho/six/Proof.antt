@@ -1,49 +1,37 @@
--- `distance::mho::six` meets its contract: each loop is given what the definition's list has for it. Assumes nothing.
-use mathlib.Core.Path.{_∙_}
-use mathlib.Core.List.{[], _∷_}
-use borrow.Author.Needs.{needs}
-use mir.Facts.{toZ-ofZ}
-use Rattle.distance.specs.Mho.{bits}
+-- `distance::mho::six` meets its contract: each loop is given what the definition has for it. Assumes nothing.
 use Rattle.distance.proofs.mho.six.Statement.{statement}
 use Rattle.distance.proofs.mho.six.Tie as tie
 
-ground-requires : tie.Need-ground-requires
-ground-requires c κs = search needs
-
-ground-requires-2 : tie.Need-ground-requires-2
-ground-requires-2 c κs = search needs
-
-ground-requires-3 : tie.Need-ground-requires-3
-ground-requires-3 c κs = search needs
-
-phase-requires : tie.Need-phase-requires
-phase-requires c κs = search needs
-
-phase-requires-2 : tie.Need-phase-requires-2
-phase-requires-2 c κs = search needs
-
-phase-requires-3 : tie.Need-phase-requires-3
-phase-requires-3 c κs = search needs
-
-bits-requires : tie.Need-bits-requires
-bits-requires c κs = search needs
-
+-- each loop is the one that the definition has there
 returns : tie.Need-returns
 returns c =
-    let c6 = c .before in
-    let c5 = c6 .before in
-    let c4 = c5 .before in
-    let c3 = c4 .before in
-    let c2 = c3 .before in
-    let c1 = c2 .before in
-    let r = toZ-ofZ (c1 .before .fits .r) in
-    let ag = simp r at (c1 .ground .ensures) in
-    let bg = simp r at (c2 .ground2 .ensures) in
-    let cg = simp r at (c3 .ground3 .ensures) in
-    let ab = simp r at (c4 .phase .ensures) in
-    let bc = simp r at (c5 .phase2 .ensures) in
-    let ca = simp r at (c6 .phase3 .ensures) in
-    c .bits .ensures ∙ (λ k. bits (ag k ∷ bg k ∷ cg k ∷ ab k ∷ bc k ∷ ca k ∷ []))
+    let ca = c .phase3 .ensures in
+    let bc = c .before .phase2 .ensures in
+    let ab = c .before .before .phase .ensures in
+    let cg = c .before .before .before .ground3 .ensures in
+    let bg = c .before .before .before .before .ground2 .ensures in
+    let ag = c .before .before .before .before .before .ground .ensures in (
+      (λ k. record { ag = ag .0 k; bg = bg .0 k; cg = cg .0 k; ab = ab .0 k; bc = bc .0 k; ca = ca .0 k }),
+      record { ag-inside = ag .1; bg-inside = bg .1; cg-inside = cg .1; ab-inside = ab .1; bc-inside = bc .1; ca-inside = ca .1 },
+    )
+
+ground-requires : tie.Need-ground-requires
+ground-requires c κs = let h = c .pre in (h .0 .inside-a, h .1 .inside-a, h .2, h .3)
+
+ground-requires-2 : tie.Need-ground-requires-2
+ground-requires-2 c κs = let h = c .before .pre in (h .0 .inside-b, h .1 .inside-b, h .2, h .5)
+
+ground-requires-3 : tie.Need-ground-requires-3
+ground-requires-3 c κs = let h = c .before .before .pre in (h .0 .inside-c, h .1 .inside-c, h .2, h .4)
+
+phase-requires : tie.Need-phase-requires
+phase-requires c κs = let h = c .before .before .before .pre in (h .0 .inside-a, h .0 .inside-b, h .1 .inside-a, h .1 .inside-b, h .4)
+
+phase-requires-2 : tie.Need-phase-requires-2
+phase-requires-2 c κs = let h = c .before .before .before .before .pre in (h .0 .inside-b, h .0 .inside-c, h .1 .inside-b, h .1 .inside-c, h .3)
+
+phase-requires-3 : tie.Need-phase-requires-3
+phase-requires-3 c κs = let h = c .before .before .before .before .before .pre in (h .0 .inside-c, h .0 .inside-a, h .1 .inside-c, h .1 .inside-a, h .5)
 
 pub six-spec : {M : Type 1} → statement M
 six-spec =
@@ -55,5 +43,4 @@ six-spec =
     phase-requires
     phase-requires-2
     phase-requires-3
-    bits-requires
     returns)

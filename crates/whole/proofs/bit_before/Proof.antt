@@ -1,8 +1,8 @@
--- `distance::bits::front` meets its contract. Assumes nothing.
+-- `whole::bit_before` meets its contract.
 use native.Mathlib.Omega.{arith}
 use borrow.Author.Needs.{needs}
-use Rattle.distance.proofs.bits.front.Statement.{statement}
-use Rattle.distance.proofs.bits.front.Tie as tie
+use Rattle.whole.proofs.bit_before.Statement.{statement}
+use Rattle.whole.proofs.bit_before.Tie as tie
 
 mul-result : tie.Need-mul-result
 mul-result c = search needs
@@ -19,5 +19,5 @@ returns c = rw (c .if1 .taken) (omega arith, omega arith)
 returns-2 : tie.Need-returns-2
 returns-2 c = rw (c .if1 .left) (omega arith, omega arith)
 
-pub front-spec : {M : Type 1} → statement M
-front-spec = tie.close (tie.spec mul-result add-result mul-result-2 returns returns-2)
+pub bit-before-spec : {M : Type 1} → statement M
+bit-before-spec = tie.close (tie.spec mul-result add-result mul-result-2 returns returns-2)

@@ -1,0 +1,88 @@
+-- `distance::direction::of_fault` meets its contract: the settings are in range, so every call may be made. Assumes nothing.
+use mathlib.Core.Path.{_≡_, sym, ap, _∙_}
+use borrow.Author.Needs.{needs}
+use denote.Ref.{now}
+use Rattle.whole.proofs.Machine.{back}
+use Rattle.whole.proofs.Size.{along, wider}
+use Rattle.plane.specs.declared.Phasor.{Phasor}
+use Rattle.plane.specs.Plane.{squared}
+use Rattle.plane.proofs.Bounds.{within-dot}
+use Rattle.settings.specs.Fields.{forwardLimit, reverseLimit}
+use Rattle.distance.specs.Line.{angle}
+use Rattle.distance.specs.Direction.{torque, sideOf, directionOf}
+use Rattle.distance.proofs.Sizes.{forward-within, reverse-within}
+use Rattle.distance.proofs.direction.of_fault.Statement.{statement}
+use Rattle.distance.proofs.direction.of_fault.Tie as tie
+
+-- on which side T lies, by the record
+sides :
+    (c : tie.After-side) → let a = c .before .before .before .before .before .before .before .before .before .args in
+    c .side .result ≡ sideOf (forwardLimit (now (a .s))) (reverseLimit (now (a .s))) (torque (angle (now (a .s))) (a .v2) (a .i2)) (squared (a .i2))
+sides c =
+    let q = c .before in
+    let t = q .before in
+    let g = t .before in
+    let r = g .before in
+    let f = r .before in
+    let a = f .before .before .before .before .args in
+    let zf = f .forward-limit in
+    let zr = r .reverse-limit in
+    let T = t .torque .ensures ∙ ap (λ (d : Phasor). torque d (a .v2) (a .i2)) (g .angle .ensures .0) in
+    (simp (back (zf .result) (zf .ok), back (zr .result) (zr .ok), back (t .torque .result) (t .torque .ok), back (q .square .result) (q .square .ok)) at (c .side .ensures))
+    ∙ (λ k. sideOf (zf .ensures k) (zr .ensures k) (T k) (q .square .ensures k))
+
+reaches-pickup-requires : tie.Need-reaches-pickup-requires
+reaches-pickup-requires c κs = search needs
+
+forward-limit-requires : tie.Need-forward-limit-requires
+forward-limit-requires c κs = search needs
+
+reverse-limit-requires : tie.Need-reverse-limit-requires
+reverse-limit-requires c κs = search needs
+
+angle-requires : tie.Need-angle-requires
+angle-requires c κs = search needs
+
+torque-requires : tie.Need-torque-requires
+torque-requires c κs = search needs
+
+square-requires : tie.Need-square-requires
+square-requires c κs = search needs
+
+side-requires : tie.Need-side-requires
+side-requires c κs =
+    let r = c .before .before .before in
+    let f = r .before in
+    let h = f .before .before .before .before .pre in
+    let zf = f .forward-limit in
+    let zr = r .reverse-limit in
+    let q = c .square in
+    simp (back (zf .result) (zf .ok), back (zr .result) (zr .ok), back (q .result) (q .ok)) (
+      along (zf .ensures) (forward-within (h .0)),
+      along (zr .ensures) (reverse-within (h .0)),
+      wider (along (q .ensures) (within-dot (h .2) (h .2))) tt,
+    )
+
+returns : tie.Need-returns
+unfolding directionOf
+returns c =
+    let then = c .before .before .before .before .before .before in
+    rw (sym (then .before .reaches-pickup .ensures) ∙ then .if1 .taken) (sides c)
+
+returns-2 : tie.Need-returns-2
+unfolding directionOf
+returns-2 c = rw (sym (c .before .reaches-pickup .ensures) ∙ c .if1 .left)
+
+pub of-fault-spec : {M : Type 1} → statement M
+of-fault-spec =
+    tie.close
+    (tie.spec
+    reaches-pickup-requires
+    forward-limit-requires
+    reverse-limit-requires
+    angle-requires
+    torque-requires
+    square-requires
+    side-requires
+    returns
+    returns-2)

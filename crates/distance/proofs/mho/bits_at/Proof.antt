@@ -1,0 +1,67 @@
+-- `distance::mho::bits_at` meets its contract: each loop at the same reach, and its bit. Assumes nothing.
+use mathlib.Core.Path.{_∙_}
+use mathlib.Core.List.{[], _∷_}
+use borrow.Author.Needs.{needs}
+use mir.Facts.{toZ-ofZ}
+use Rattle.whole.specs.Bits.{bits}
+use Rattle.distance.specs.Mho.{asserts, loopBits}
+use Rattle.distance.proofs.mho.bits_at.Statement.{statement}
+use Rattle.distance.proofs.mho.bits_at.Tie as tie
+
+replica-requires : tie.Need-replica-requires
+replica-requires c κs = search needs
+
+asserts-requires : tie.Need-asserts-requires
+asserts-requires c κs = search needs
+
+asserts-requires-2 : tie.Need-asserts-requires-2
+asserts-requires-2 c κs = search needs
+
+asserts-requires-3 : tie.Need-asserts-requires-3
+asserts-requires-3 c κs = search needs
+
+asserts-requires-4 : tie.Need-asserts-requires-4
+asserts-requires-4 c κs = search needs
+
+asserts-requires-5 : tie.Need-asserts-requires-5
+asserts-requires-5 c κs = search needs
+
+asserts-requires-6 : tie.Need-asserts-requires-6
+asserts-requires-6 c κs = search needs
+
+bits-requires : tie.Need-bits-requires
+bits-requires c κs = search needs
+
+returns : tie.Need-returns
+unfolding loopBits
+returns c =
+    let c6 = c .before in
+    let c5 = c6 .before in
+    let c4 = c5 .before in
+    let c3 = c4 .before in
+    let c2 = c3 .before in
+    let c1 = c2 .before in
+    let s = c1 .before .before .before in
+    let z = c1 .before .replica .ensures .0 in
+    let r = toZ-ofZ (s .fits .r) in
+    let ag = simp r at (c1 .asserts .ensures) in
+    let bg = simp r at (c2 .asserts2 .ensures) in
+    let cg = simp r at (c3 .asserts3 .ensures) in
+    let ab = simp r at (c4 .asserts4 .ensures) in
+    let bc = simp r at (c5 .asserts5 .ensures) in
+    let ca = simp r at (c6 .asserts6 .ensures) in
+    rw (← z) (c .bits .ensures ∙ (λ k. bits (ag k ∷ bg k ∷ cg k ∷ ab k ∷ bc k ∷ ca k ∷ [])))
+
+pub bits-at-spec : {M : Type 1} → statement M
+bits-at-spec =
+    tie.close
+    (tie.spec
+    replica-requires
+    asserts-requires
+    asserts-requires-2
+    asserts-requires-3
+    asserts-requires-4
+    asserts-requires-5
+    asserts-requires-6
+    bits-requires
+    returns)

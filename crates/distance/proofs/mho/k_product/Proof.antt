@@ -1,0 +1,37 @@
+-- `distance::mho::k_product` meets its contract: the product fits. Assumes nothing.
+use mathlib.Core.Path.{ap, _∙_}
+use borrow.Author.Needs.{needs}
+use lib.IntN.{pos}
+use lib.Signed.{ltZ-yes}
+use Rattle.whole.proofs.Size.{lit, wider}
+use Rattle.plane.specs.Plane.{times, rounded}
+use Rattle.plane.proofs.Bounds.{inside-factor, inside-wider, inside-along}
+use Rattle.distance.specs.Mho.{kProduct}
+use Rattle.distance.proofs.Sizes.{k-product-inside}
+use Rattle.distance.proofs.mho.k_product.Statement.{statement}
+use Rattle.distance.proofs.mho.k_product.Tie as tie
+
+residual-requires : tie.Need-residual-requires
+residual-requires c κs = search needs
+
+times-requires : tie.Need-times-requires
+times-requires c κs =
+    let h = c .before .pre in
+    (record { real = wider (h .0 .real) tt; imag = wider (h .0 .imag) tt }, inside-wider (c .residual .ensures .1) tt)
+
+rounded-requires : tie.Need-rounded-requires
+rounded-requires c κs =
+    let h = c .before .before .pre in
+    let product = inside-factor (h .0 .real) (h .0 .imag) (c .before .residual .ensures .1) in
+    (ltZ-yes tt, inside-along (c .times .ensures) (inside-wider product tt), wider (lit (pos 1000)) tt)
+
+returns : tie.Need-returns
+unfolding kProduct
+returns c =
+    let t = c .before in
+    let s = t .before .before in
+    let e = c .rounded .ensures ∙ ap (rounded 1000) (t .times .ensures ∙ ap (times (s .args .k)) (t .before .residual .ensures .0)) in
+    (e, inside-along e (k-product-inside (s .pre .0) (s .pre .1)))
+
+pub k-product-spec : {M : Type 1} → statement M
+k-product-spec = tie.close (tie.spec residual-requires times-requires rounded-requires returns)
