@@ -35,7 +35,7 @@ pub struct SixLoops {
 // k is in thousandths.
 const K_SCALE: i64 = 1000;
 
-// So are Z and the reach beside it.
+// Z and the reach are in thousandths too, their product in millionths.
 const REACH_SCALE: i64 = 1000000;
 
 // Ia+Ib+Ic.
