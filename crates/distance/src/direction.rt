@@ -8,6 +8,7 @@ ghost use Rattle.distance.specs.Direction.{reachesPickup, torque, sideOf
 use crate::line;
 use plane::Phasor;
 
+// Which way a fault lies from the relay.
 pub enum Direction {
     None,
     Forward,

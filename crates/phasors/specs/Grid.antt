@@ -19,9 +19,13 @@ voltage rate w ends p = phasorOf rate (sample w (channels ends) p)
 abbrev pub current : Rate → List ℤ → ℕ → ℕ → ℕ → Phasor
 current rate w ends p e = phasorOf rate (sample w (channels ends) (3 + 3 * e + p))
 
+-- A quantity of each phase, as three
+abbrev pub byPhase : (ℕ → Phasor) → Phases
+byPhase f = record { a = f 0; b = f 1; c = f 2 }
+
 -- Va, Vb, Vc
 abbrev pub voltagesOf : Rate → List ℤ → ℕ → Phases
-voltagesOf rate w ends = record { a = voltage rate w ends 0; b = voltage rate w ends 1; c = voltage rate w ends 2 }
+voltagesOf rate w ends = byPhase (voltage rate w ends)
 
 -- What stands in a grid at a phase and an end
 abbrev pub cell : List (List Phasor) → ℕ → ℕ → Phasor
@@ -29,11 +33,11 @@ cell g p e = getD (getD g p []) e plane.zero
 
 -- Ia, Ib, Ic of end 1, in a window
 abbrev pub localCurrents : Rate → List ℤ → ℕ → Phases
-localCurrents rate w ends = record { a = current rate w ends 0 0; b = current rate w ends 1 0; c = current rate w ends 2 0 }
+localCurrents rate w ends = byPhase (λ p. current rate w ends p 0)
 
 -- and in a grid
 abbrev pub localOf : List (List Phasor) → Phases
-localOf g = record { a = cell g 0 0; b = cell g 1 0; c = cell g 2 0 }
+localOf g = byPhase (λ p. cell g p 0)
 
 -- f 0 + .. + f (n - 1)
 unfoldable pub total : (ℕ → Phasor) → ℕ → Phasor

@@ -1,4 +1,5 @@
 -- Laws of complex numbers that other crates cite.
 pub mod Bounds
 pub mod Made
+pub mod Products
 pub mod Laws
