@@ -6,6 +6,7 @@ use Prim.Native.Nat.{ℕ}
 use lib.Dec.{T, eqb, eqb-refl}
 use lib.IntN.{ℤ, pos, _*ℤ_}
 use lib.Signed.{_≤ℤ_, _<ℤ_, ltZ, leZ}
+use Rattle.whole.specs.Exactly.{Exactly}
 use Rattle.whole.specs.Round.{Rounded}
 use Rattle.whole.proofs.Certificate.{quo, le!, false!, g-le, g-lt, g-num, _⊞_, _⊠_}
 use Rattle.whole.proofs.Order.{≤-trans}
@@ -21,7 +22,7 @@ use Rattle.distance.specs.Sequence.{a, a², scale, sequence, turned}
 use Rattle.distance.specs.Line.{angle}
 use Rattle.distance.specs.Direction.{reachesPickup, torque, sideOf, directionOf, directionNumber}
 use Rattle.distance.specs.Mho.{numerator, denominator, mho, asserts, residual, kProduct, ground, phase, loopsOf, loopBits}
-use Rattle.distance.specs.Laws.{Exactly, MhoRule, LargerReach, NoPolarising, NoPositive, NeverBoth, ForwardRule, ReverseRule}
+use Rattle.distance.specs.Laws.{MhoRule, LargerReach, NoPolarising, NoPositive, NeverBoth, ForwardRule, ReverseRule}
 
 -- ---- the mho rule
 

@@ -5,6 +5,7 @@ use mathlib.Core.List.{List}
 use Prim.Native.Nat.{ℕ}
 use lib.IntN.{ℤ, pos, _*ℤ_}
 use lib.Signed.{_≤ℤ_, _<ℤ_}
+use Rattle.whole.specs.Exactly.{Exactly}
 use Rattle.settings.specs.Fields.{forwardLimit, reverseLimit, negativePickup}
 use Rattle.plane.specs.declared.Phasor.{Phasor}
 use Rattle.plane.specs.declared.Phases.{Phases}
@@ -15,10 +16,6 @@ use Rattle.distance.specs.Line.{angle}
 use Rattle.distance.specs.Direction.{torque, directionOf}
 use Rattle.distance.specs.declared.mho.Loop.{Loop}
 use Rattle.distance.specs.Mho.{loopsOf, numerator, denominator, asserts, loopBits}
-
--- the one holds exactly when the other does
-abbrev pub Exactly : Type 0 → Type 0 → Type 0
-Exactly A B = (A → B) × (B → A)
 
 -- ---- the mho rule
 

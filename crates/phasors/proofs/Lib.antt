@@ -2,3 +2,4 @@
 pub mod Weights
 pub mod Totals
 pub mod Cells
+pub mod Zero

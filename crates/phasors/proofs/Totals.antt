@@ -1,15 +1,19 @@
 -- The sum of a phase over the ends: how it grows, how large it gets, and that the sum of a filled grid is that of the currents in the window;
 -- and what stands at end 1 of one.
-use mathlib.Core.Path.{_≡_, refl}
-use mathlib.Core.List.{List}
+use mathlib.Core.Path.{_≡_, refl, _∙_}
+use mathlib.Core.List.{List, [], _∷_}
 use Prim.Native.Nat.{ℕ, zero, suc, _+_, _*_, _<_, _≤_, zero-le}
 use native.Mathlib.Numerals.{add-one}
 use native.Mathlib.Omega.{arith}
 use lib.Dec.{le→leb}
-use lib.IntN.{ℤ}
+use lib.IntN.{ℤ, _+ℤ_, _-ℤ_, _*ℤ_}
+use Rattle.whole.specs.Sum.{sumOf}
+use Rattle.whole.proofs.Certificate.{quo, ring! }
+use Rattle.whole.proofs.Triangle.{len-zero, len-add}
 use Rattle.plane.specs.declared.Phasor.{Phasor}
-use Rattle.plane.specs.Plane.{Inside, AllInside, phasorSize, plus}
+use Rattle.plane.specs.Plane.{Inside, AllInside, phasorSize, plus, minus, scaled, Long}
 use Rattle.plane.proofs.Bounds.{inside-plus, inside-wider}
+use Rattle.plane.proofs.Made.{pair}
 use Rattle.phasors.specs.Rate.{Rate}
 use Rattle.phasors.specs.Grid.{cell, current, localCurrents, localOf, total, Filled}
 
@@ -48,3 +52,29 @@ filled-local h n =
       (λ i. record { a = h .measured 0 0 a n i; b = h .measured 1 0 b n i; c = h .measured 2 0 c n i }),
       record { inside-a = h .inside 0 0 a n; inside-b = h .inside 1 0 b n; inside-c = h .inside 2 0 c n },
     )
+
+-- ---- sums of multiples and of differences, and the triangle inequality over the ends
+
+pub total-scaled : (k : ℤ) (f : ℕ → Phasor) (n : ℕ) → total (λ e. scaled k (f e)) n ≡ scaled k (total f n)
+unfolding total plus scaled
+total-scaled k f zero = pair (ring! (k ∷ []) (search quo depth 40) tt) (ring! (k ∷ []) (search quo depth 40) tt)
+total-scaled k f (suc n) = (λ i. plus (total-scaled k f n i) (scaled k (f n))) ∙ pair (out (total f n .re) (f n .re)) (out (total f n .im) (f n .im))
+  where
+    out : (x y : ℤ) → k *ℤ x +ℤ k *ℤ y ≡ k *ℤ (x +ℤ y)
+    out x y = ring! (k ∷ x ∷ y ∷ []) (search quo depth 40) tt
+
+pub total-minus : (f g : ℕ → Phasor) (n : ℕ) → total (λ e. minus (f e) (g e)) n ≡ minus (total f n) (total g n)
+unfolding total plus minus
+total-minus f g zero = refl
+total-minus f g (suc n) =
+    (λ i. plus (total-minus f g n i) (minus (f n) (g n)))
+    ∙ pair (apart (total f n .re) (total g n .re) (f n .re) (g n .re)) (apart (total f n .im) (total g n .im) (f n .im) (g n .im))
+  where
+    apart : (x y z w : ℤ) → (x -ℤ y) +ℤ (z -ℤ w) ≡ (x +ℤ z) -ℤ (y +ℤ w)
+    apart x y z w = ring! (x ∷ y ∷ z ∷ w ∷ []) (search quo depth 40) tt
+
+-- a sum is at most as long as its terms together
+pub long-total : (f : ℕ → Phasor) (a : ℕ → ℕ) (n : ℕ) → ((e : ℕ) → Long (f e) (a e)) → Long (total f n) (sumOf a n)
+unfolding total plus sumOf
+long-total f a zero h = len-zero
+long-total f a (suc n) h = len-add (long-total f a n h) (h n)

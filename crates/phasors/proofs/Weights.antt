@@ -10,11 +10,13 @@ use lib.IntN.{ℤ, pos, natAbs, _+ℤ_}
 use lib.ListN.{length}
 use Rattle.whole.specs.Range.{Within}
 use Rattle.whole.specs.Round.{Rounded}
+use Rattle.whole.specs.Sum.{sumOf}
+use Rattle.whole.proofs.Sums.{sum-next as added}
 use Rattle.whole.proofs.Size.{neg, add, sub, mul, lit}
 use Rattle.plane.specs.declared.Phasor.{Phasor}
-use Rattle.plane.specs.Plane.{Inside, phasorSize, zero, rounded}
+use Rattle.plane.specs.Plane.{Inside, NearTo, phasorSize, zero, rounded}
 use Rattle.plane.proofs.Bounds.{inside-rounded, inside-wider}
-use Rattle.plane.proofs.Laws.{rounded-is}
+use Rattle.plane.proofs.Laws.{rounded-is, rounded-near}
 use Rattle.samples.specs.Window.{frames}
 use Rattle.phasors.specs.Rate.{Rate, cosine, sine, sixteen}
 use Rattle.phasors.specs.Sums.{withSample, sumTo, weight, Summed, exact, phasorOf}
@@ -25,14 +27,10 @@ pub sum-next :
 unfolding sumTo
 sum-next table shift x n = rw (add-one n)
 
-pub weight-next : (f : ℕ → ℤ) (n : ℕ) → weight f (n + 1) ≡ weight f n + natAbs (f n)
-unfolding weight
-weight-next f n = rw (add-one n)
-
 -- ---- one turn of the loop
 
 pub summed-none : (table : List ℤ) (shift : ℕ) (x : ℕ → ℤ) → Summed table shift x 0 zero
-unfolding sumTo weight
+unfolding sumTo sumOf
 summed-none table shift x = record { summed = refl; real = lit (pos 0); imag = lit (pos 0) }
 
 pub summed-next :
@@ -49,7 +47,7 @@ summed-next table shift x n h k = record {
     grown :
         (f : ℕ → ℤ) {z y : ℤ} → Within (32768 * weight f n) z → Within (32768 * natAbs (f n)) y →
         Within (32768 * weight f (n + 1)) (z +ℤ y)
-    grown f p q = record { size = omega (arith, add p q .size, weight-next f n) }
+    grown f p q = record { size = omega (arith, add p q .size, added (λ k. natAbs (f k)) n) }
 
 -- and from their type alone: a sample adds at most 2 ^ 30 to each sum
 pub inside-next :
@@ -98,6 +96,11 @@ pub phasor-is :
 unfolding phasorOf
 phasor-is rate x t even = rounded-is (rate .divisor) t even (exact rate x)
 
+-- and near to the sums, whichever way a tie goes
+pub phasor-near : (rate : Rate) → T (ltb 0 (rate .divisor)) → (x : ℕ → ℤ) → NearTo (rate .divisor) (exact rate x) (phasorOf rate x)
+unfolding phasorOf
+phasor-near rate t x = rounded-near (rate .divisor) t (exact rate x)
+
 -- ---- sixteen samples a cycle
 
 pub sixteen-is : (x : ℕ → ℤ) → Rounded 131072 (exact sixteen x .re) (phasorOf sixteen x .re) × Rounded 131072 (exact sixteen x .im) (phasorOf sixteen x .im)
@@ -109,5 +112,5 @@ sixteen-frames = refl
 
 -- 32768 times 164736, rounded by 131072, is 41184
 pub sixteen-measures : Measures sixteen 164736
-unfolding weight
+unfolding sumOf
 sixteen-measures = record { real = omega arith; imag = omega arith; above = tt; small = tt }

@@ -9,7 +9,7 @@ use Rattle.plane.specs.declared.Phases.{Phases}
 use Rattle.plane.specs.Plane as plane
 use Rattle.samples.specs.Window.{channels}
 use Rattle.phasors.specs.Rate.{Rate}
-use Rattle.phasors.specs.Sums.{sample, phasorOf}
+use Rattle.phasors.specs.Sums.{sample, exact, phasorOf}
 
 -- The phasor of a phase's voltage, in a window of N ends
 abbrev pub voltage : Rate → List ℤ → ℕ → ℕ → Phasor
@@ -18,6 +18,10 @@ voltage rate w ends p = phasorOf rate (sample w (channels ends) p)
 -- The phasor of a phase's current at an end
 abbrev pub current : Rate → List ℤ → ℕ → ℕ → ℕ → Phasor
 current rate w ends p e = phasorOf rate (sample w (channels ends) (3 + 3 * e + p))
+
+-- The same before rounding: "the unrounded sums A and B" of the end in the phase
+abbrev pub exactCurrent : Rate → List ℤ → ℕ → ℕ → ℕ → Phasor
+exactCurrent rate w ends p e = exact rate (sample w (channels ends) (3 + 3 * e + p))
 
 -- A quantity of each phase, as three
 abbrev pub byPhase : (ℕ → Phasor) → Phases
@@ -44,7 +48,11 @@ unfoldable pub total : (ℕ → Phasor) → ℕ → Phasor
 total f zero = plane.zero
 total f (suc n) = plane.plus (total f n) (f n)
 
+-- Every current of a grid, at the line's ends, is within 42000 of zero.
+abbrev pub GridInside : List (List Phasor) → ℕ → Type 0
+GridInside g ends = (p e : ℕ) → p < 3 → e < ends → plane.Inside plane.phasorSize (cell g p e)
+
 -- A grid filled from a window: at each phase and end of the line stands that phase's current there, and within 42000 of zero.
 pub record Filled (rate : Rate) (w : List ℤ) (ends : ℕ) (g : List (List Phasor)) : Type 0 where
   pub measured : (p e : ℕ) → p < 3 → e < ends → cell g p e ≡ current rate w ends p e
-  pub inside : (p e : ℕ) → p < 3 → e < ends → plane.Inside plane.phasorSize (cell g p e)
+  pub inside : GridInside g ends

@@ -6,6 +6,7 @@ use Prim.Native.Nat.{ℕ, zero, suc, _+_, _*_}
 use lib.IntN.{ℤ, pos, natAbs, _+ℤ_, _-ℤ_, _*ℤ_}
 use lib.ListN.{length, getD}
 use Rattle.whole.specs.Range.{Within}
+use Rattle.whole.specs.Sum.{sumOf}
 use Rattle.plane.specs.declared.Phasor.{Phasor}
 use Rattle.plane.specs.Plane as plane
 use Rattle.phasors.specs.Rate.{Rate, cosine, sine}
@@ -24,9 +25,8 @@ sumTo table shift x zero = plane.zero
 sumTo table shift x (suc n) = withSample (sumTo table shift x n) (x n) (cosine table n) (sine table shift n)
 
 -- How large the sums can get: the sizes of f 0 .. f (n - 1) added up, to be multiplied by the size of the largest sample
-unfoldable pub weight : (ℕ → ℤ) → ℕ → ℕ
-weight f zero = 0
-weight f (suc n) = weight f n + natAbs (f n)
+abbrev pub weight : (ℕ → ℤ) → ℕ → ℕ
+weight f n = sumOf (λ k. natAbs (f k)) n
 
 -- r is these sums, and no larger than samples of 16 bits, each at most 32768 in size, can make them.
 pub record Summed (table : List ℤ) (shift : ℕ) (x : ℕ → ℤ) (n : ℕ) (r : Phasor) : Type 0 where

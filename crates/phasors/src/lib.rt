@@ -1,12 +1,12 @@
 // The phasors of a window: the samples of a channel against the cosine table, the voltages, and the grid of currents, phase by end.
 ghost use mathlib.Core.Path.{_≡_};
-ghost use Prim.Native.Nat.{ℕ, _*_, _<_, _≤_, _^_};
+ghost use Prim.Native.Nat.{_*_, _<_, _≤_, _^_};
 ghost use lib.ListN.{length};
 ghost use Rattle.plane.specs.Plane.{Inside, AllInside, phasorSize};
 ghost use Rattle.samples.specs.Window.{windowLength};
 ghost use Rattle.phasors.specs.Rate.{cosines, sixteen};
 ghost use Rattle.phasors.specs.Sums.{sample, withSample, Summed, phasorOf};
-ghost use Rattle.phasors.specs.Grid.{Filled, cell, localOf, total, voltagesOf};
+ghost use Rattle.phasors.specs.Grid.{Filled, GridInside, cell, localOf, total, voltagesOf};
 use plane::Phases;
 use plane::Phasor;
 
@@ -118,7 +118,7 @@ pub fn local(grid: [[Phasor; 6]; 3]) -> Phases
 
 // The currents of one phase, summed over the ends.
 pub fn sum_phase(grid: [[Phasor; 6]; 3], p: usize, ends: usize) -> Phasor
-    requires { ⌜ (p < 3) × (ends ≤ 6) × ((e : ℕ) → e < ends → Inside phasorSize (cell grid p e)) ⌝ }
+    requires { ⌜ (p < 3) × (ends ≤ 6) × GridInside grid ends ⌝ }
     ensures { λ r. ⌜ (r ≡ total (cell grid p) ends) × Inside 252000 r ⌝ }
 {
     let mut sum = Phasor { re: 0, im: 0 };

@@ -1,16 +1,19 @@
 -- What the operations mean: Re(p q*) is the real part of that product, -j is the complex number (0, -1), a square is not negative, and each
 -- component is rounded as document 01 says.
 use mathlib.Core.Path.{_≡_, refl}
-use Prim.Native.Nat.{ℕ, _%_}
+use Prim.Native.Nat.{ℕ, _+_, _*_, _%_, _≤_}
 use lib.Dec.{T, ltb, ltb→lt}
 use mathlib.Core.List.{[], _∷_}
 use lib.IntN.{pos, negℤ}
 use lib.Signed.{_≤ℤ_}
 use Rattle.whole.proofs.Certificate.{quo, ring!, le!, g-sq, _⊞_}
 use Rattle.whole.specs.Round.{Rounded}
-use Rattle.whole.proofs.Rounding.{round-is, round-zero}
+use Rattle.whole.proofs.Rounding.{round-near, round-is, round-zero}
+use Rattle.whole.proofs.Size.{abs-is}
 use Rattle.plane.specs.declared.Phasor.{Phasor}
-use Rattle.plane.specs.Plane.{times, rounded, conjugate, minusJ, dot, squared, zero}
+use Rattle.plane.specs.Plane.{Inside, NearTo, times, rounded, conjugate, minusJ, dot, squared, squaredMagnitude, zero}
+use Rattle.plane.proofs.Bounds.{within-dot}
+use Rattle.plane.proofs.Made.{pair}
 
 pub dot-is : (p q : Phasor) → dot p q ≡ times p (conjugate q) .re
 unfolding dot times
@@ -21,7 +24,7 @@ unfolding minusJ times
 minus-j-is p =
     let re : minusJ p .re ≡ times (record { re = pos 0; im = negℤ (pos 1) }) p .re = ring! (p .re ∷ p .im ∷ []) (search quo depth 40) tt in
     let im : minusJ p .im ≡ times (record { re = pos 0; im = negℤ (pos 1) }) p .im = ring! (p .re ∷ p .im ∷ []) (search quo depth 40) tt in
-    λ i. record { re = re i; im = im i }
+    pair re im
 
 pub squared-nonneg : (p : Phasor) → pos 0 ≤ℤ squared p
 unfolding dot
@@ -37,11 +40,11 @@ unfolding times
 times-zero p =
     let re : times p zero .re ≡ pos 0 = ring! (p .re ∷ p .im ∷ []) (search quo depth 40) tt in
     let im : times p zero .im ≡ pos 0 = ring! (p .re ∷ p .im ∷ []) (search quo depth 40) tt in
-    λ i. record { re = re i; im = im i }
+    pair re im
 
 pub rounded-zero : (d : ℕ) → T (ltb 0 d) → rounded d zero ≡ zero
 unfolding rounded
-rounded-zero d t = let z = round-zero d (ltb→lt 0 d t) in λ i. record { re = z i; im = z i }
+rounded-zero d t = let z = round-zero d (ltb→lt 0 d t) in pair z z
 
 pub minus-j-zero : minusJ zero ≡ zero
 unfolding minusJ
@@ -51,3 +54,22 @@ minus-j-zero = refl
 pub rounded-is : (d : ℕ) → T (ltb 0 d) → d % 2 ≡ 0 → (p : Phasor) → Rounded d (p .re) (rounded d p .re) × Rounded d (p .im) (rounded d p .im)
 unfolding rounded
 rounded-is d t even p = let above = ltb→lt 0 d t in (round-is d above even (p .re), round-is d above even (p .im))
+
+-- and near, whichever way a tie goes
+pub rounded-near : (d : ℕ) → T (ltb 0 d) → (p : Phasor) → NearTo d p (rounded d p)
+unfolding rounded
+rounded-near d t p = let above = ltb→lt 0 d t in record { real = round-near d above (p .re); imag = round-near d above (p .im) }
+
+-- ---- the squared magnitude as a natural number
+
+pub squared-magnitude-is : (p : Phasor) → pos (squaredMagnitude p) ≡ squared p
+unfolding squaredMagnitude
+squared-magnitude-is p = abs-is (squared-nonneg p)
+
+pub squared-magnitude-zero : squaredMagnitude zero ≡ 0
+unfolding squaredMagnitude dot
+squared-magnitude-zero = refl
+
+pub squared-magnitude-most : {b : ℕ} {p : Phasor} → Inside b p → squaredMagnitude p ≤ b * b + b * b
+unfolding squaredMagnitude
+squared-magnitude-most h = within-dot h h .size

@@ -1,8 +1,9 @@
 -- Complex numbers with whole parts, and what document 01 does with them. Each operation is the textbook's.
 use Prim.Native.Nat.{ℕ}
-use lib.IntN.{ℤ, pos, negℤ, _+ℤ_, _-ℤ_, _*ℤ_}
+use lib.IntN.{ℤ, pos, negℤ, natAbs, _+ℤ_, _-ℤ_, _*ℤ_}
 use Rattle.whole.specs.Range.{Within}
-use Rattle.whole.specs.Round.{roundBy}
+use Rattle.whole.specs.Length.{Len}
+use Rattle.whole.specs.Round.{Near, roundBy}
 use Rattle.plane.specs.declared.Phasor.{Phasor}
 use Rattle.plane.specs.declared.Phases.{Phases}
 
@@ -45,6 +46,11 @@ scaled n p = record { re = n *ℤ p .re; im = n *ℤ p .im }
 unfoldable pub rounded : ℕ → Phasor → Phasor
 rounded d p = record { re = roundBy d (p .re); im = roundBy d (p .im) }
 
+-- each component of d q is at most d/2 away from that of p: so it is with q rounded, whichever way a tie goes
+pub record NearTo (d : ℕ) (p q : Phasor) : Type 0 where
+  pub real : Near d (p .re) (q .re)
+  pub imag : Near d (p .im) (q .im)
+
 -- p*, the conjugate
 abbrev pub conjugate : Phasor → Phasor
 conjugate p = record { re = p .re; im = negℤ (p .im) }
@@ -60,3 +66,11 @@ dot p q = p .re *ℤ q .re +ℤ p .im *ℤ q .im
 -- |p|²
 abbrev pub squared : Phasor → ℤ
 squared p = dot p p
+
+-- p is at most a long
+abbrev pub Long : Phasor → ℕ → Type 0
+Long p a = Len (p .re) (p .im) (pos a)
+
+-- |p|² as a natural number, to take a root of
+unfoldable pub squaredMagnitude : Phasor → ℕ
+squaredMagnitude p = natAbs (squared p)

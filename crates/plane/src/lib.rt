@@ -4,7 +4,7 @@ ghost use Prim.Native.Nat.{_*_, _^_};
 ghost use lib.IntN.{pos, natAbs};
 ghost use lib.Signed.{_<ℤ_};
 ghost use Rattle.whole.specs.Range.{Within};
-ghost use Rattle.plane.specs.Plane.{Inside, plus, minus, times, scaled, rounded, dot, squared, minusJ};
+ghost use Rattle.plane.specs.Plane.{Inside, plus, minus, times, scaled, rounded, dot, squared, squaredMagnitude, minusJ};
 
 // A voltage or a current in counts, or any other complex number.
 pub struct Phasor {
@@ -93,4 +93,12 @@ pub fn square(p: Phasor) -> i64
     ensures { λ r. ⌜ r ≡ squared p ⌝ }
 {
     dot(p, p)
+}
+
+// |p|² as an unsigned number, to take a root of.
+pub fn squared_magnitude(p: Phasor) -> u64
+    requires { ⌜ Inside (4 * 10 ^ 8) p ⌝ }
+    ensures { λ r. ⌜ r ≡ squaredMagnitude p ⌝ }
+{
+    square(p) as u64
 }

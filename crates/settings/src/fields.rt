@@ -2,7 +2,7 @@
 ghost use mathlib.Core.Path.{_≡_};
 ghost use lib.IntN.{pos};
 ghost use Rattle.settings.specs.Record.{fieldAt};
-ghost use Rattle.settings.specs.Fields.{ends, replicaReal, replicaImaginary, reach, kReal, kImaginary, angleReal, angleImaginary, forwardLimit, reverseLimit, negativePickup};
+ghost use Rattle.settings.specs.Fields.{ends, slope, pickup, replicaReal, replicaImaginary, reach, kReal, kImaginary, angleReal, angleImaginary, forwardLimit, reverseLimit, negativePickup};
 
 // An unsigned field, among signed numbers.
 fn counted(s: &[u8], at: u8) -> i64
@@ -16,6 +16,20 @@ pub fn ends(s: &[u8]) -> u64
     ensures { λ r. ⌜ r ≡ ends (now (s .entry)) ⌝ }
 {
     crate::field(s, 0)
+}
+
+// K, percent.
+pub fn slope(s: &[u8]) -> u64
+    ensures { λ r. ⌜ r ≡ slope (now (s .entry)) ⌝ }
+{
+    crate::field(s, 2)
+}
+
+// The differential's pickup, counts.
+pub fn pickup(s: &[u8]) -> u64
+    ensures { λ r. ⌜ r ≡ pickup (now (s .entry)) ⌝ }
+{
+    crate::field(s, 4)
 }
 
 // The replica impedance Z, thousandths.

@@ -159,6 +159,3 @@ pub *ℤ-add : (a b c : ℤ) → a *ℤ (b +ℤ c) ≡ a *ℤ b +ℤ a *ℤ c
 
 pub add-*ℤ : (a b c : ℤ) → (a +ℤ b) *ℤ c ≡ a *ℤ c +ℤ b *ℤ c
 add-*ℤ a b c = let da = d-atom a in let db = d-atom b in let dc = d-atom c in d-eq (search diff) (omega arith)
-
-pub neg-*ℤ : (a b : ℤ) → negℤ a *ℤ b ≡ negℤ (a *ℤ b)
-neg-*ℤ a b = let da = d-atom a in let db = d-atom b in d-eq (search diff) (omega arith)

@@ -1,11 +1,10 @@
 -- One example of each form of proof, to copy from, and hand checks that compute.
 use mathlib.Core.Path.{_≡_, refl}
-use mathlib.Core.List.{List, [], _∷_}
+use mathlib.Core.List.{[], _∷_}
 use Prim.Native.Nat.{ℕ, _+_, _*_, _<_}
 use native.Mathlib.Omega.{arith}
 use lib.Dec.{lit<}
 use lib.IntN.{ℤ, pos, negsuc, _+ℤ_, _-ℤ_, _*ℤ_}
-use lib.ListN.{getD}
 use lib.Signed.{_≤ℤ_, _<ℤ_}
 use mir.Syntax.{w64}
 use mir.Val.{SFits}
@@ -15,8 +14,7 @@ use Rattle.whole.specs.Root.{floorRoot, rootUp}
 use Rattle.whole.proofs.Difference.{diff, d-atom, d-lt, of-le, of-lt, of-eq}
 use Rattle.whole.proofs.Certificate.{quo, ring!, le!, lt!, le-times!, false!, g-le, g-lt, g-eq, g-num, g-sq, _⊞_, _⊠_}
 use Rattle.whole.proofs.Order.{le-ℤ, lt-ℕ}
-use Rattle.whole.specs.Length.{sumBy}
-use Rattle.whole.proofs.Size.{add, mul, lit, wider, fit, small-at}
+use Rattle.whole.proofs.Size.{add, mul, lit, wider, fit}
 use Rattle.whole.proofs.Rounding.{round-near, round-bound}
 
 -- ---- linear facts, by `omega`: a `let` for each unknown, a `search diff` for the goal and for each fact
@@ -66,16 +64,13 @@ next-square a b h =
 
 -- ---- unknowns that are terms
 
-terms : (f g : ℕ → ℤ) (v : ℕ) (vs : List ℕ) → f v ≤ℤ g v → sumBy f vs ≤ℤ sumBy g vs → sumBy f (v ∷ vs) ≤ℤ sumBy g (v ∷ vs)
-terms f g v vs h k = le! (f v ∷ g v ∷ sumBy f vs ∷ sumBy g vs ∷ []) (g-le h ⊞ g-le k) (search quo depth 40) tt
+terms : (f g : ℕ → ℤ) (v : ℕ) → f v ≤ℤ g v → (f v +ℤ f (v + 1)) ≤ℤ (g v +ℤ f (v + 1))
+terms f g v h = le! (f v ∷ g v ∷ f (v + 1) ∷ []) (g-le h) (search quo depth 40) tt
 
 -- ---- bounds: the shape of the expression, and a test that computes
 
 fits : (p q : ℤ) → Within 252000 p → Within 252000 q → SFits w64 (p *ℤ p +ℤ pos 1000 *ℤ q)
 fits p q h k = fit (add (mul h h) (mul (lit (pos 1000)) k)) tt
-
-entries : (n : ℕ) → Within 16384 (getD (pos 16384 ∷ negsuc 6269 ∷ []) n (pos 0))
-entries = small-at 16384 (pos 16384 ∷ negsuc 6269 ∷ []) tt
 
 -- ---- rounding: a sum of 16 products, and the component that it becomes
 

@@ -9,4 +9,5 @@ pub mod Machine
 pub mod Rounding
 pub mod Remainder
 pub mod Roots
+pub mod Sums
 pub mod Examples

@@ -5,13 +5,13 @@ use Prim.Native.Nat.{ℕ, zero, suc, _-_, _/_, _^_, _≤_, _<_}
 use native.Mathlib.Nat.{div-le-self}
 use native.Mathlib.Omega.{arith}
 use lib.IntN.{ℤ, pos, negsuc, negℤ}
-use lib.Signed.{_≤ℤ_, _<ℤ_, leZ, ltZ, ltZ-no, leZ-yes, ltZ-yes, mag, quotZ}
+use lib.Dec.{T}
+use lib.Signed.{nonNeg, _≤ℤ_, _<ℤ_, leZ, ltZ, ltZ-no, leZ-yes, ltZ-yes, mag, quotZ}
 use denote.Floats.{is-true}
 use mir.Syntax.{w64}
 use mir.Val.{SFits, toZ, ofZ}
 use mir.Facts.{toZ-ofZ}
 use Rattle.whole.proofs.Difference.{diff, of-lt}
-use Rattle.whole.proofs.Order.{<-unless}
 
 -- what the machine reads back of a call's result: `back (c .f .result) (c .f .ok)`, for `simp`
 pub back : (z : ℤ) → mag z < 2 ^ 63 → toZ w64 (ofZ w64 z) ≡ z
@@ -28,9 +28,6 @@ lt-false e = ltZ-no (rw e tt)
 pub le-true : {x y : ℤ} → leZ x y ≡ true → x ≤ℤ y
 le-true e = leZ-yes (rw e tt)
 
-pub le-false : {x y : ℤ} → leZ x y ≡ false → y <ℤ x
-le-false {x} {y} e = <-unless y x (λ h. rw e at (h .le))
-
 -- and back: what is known of the numbers decides the test
 pub true-lt : {x y : ℤ} → x <ℤ y → ltZ x y ≡ true
 true-lt h = is-true _ (h .lt)
@@ -44,6 +41,11 @@ false-lt {x} {y} h = by-test (ltZ x y) refl
 
 pub true-le : {x y : ℤ} → x ≤ℤ y → leZ x y ≡ true
 true-le h = is-true _ (h .le)
+
+-- what is not negative can be taken as unsigned
+pub non-neg : {z : ℤ} → pos 0 ≤ℤ z → T (nonNeg z)
+non-neg {z = pos n} h = tt
+non-neg {z = negsuc n} h = absurd (h .le)
 
 -- ---- a quotient toward zero is no larger than the dividend
 

@@ -1,16 +1,16 @@
 -- The order of the whole numbers: laws ready to cite.
 -- That numerals, squares, and sums and products of what is not negative are not negative: `g-num`, `g-sq`, `⊞`, `⊠` of Certificate.
-use mathlib.Core.Path.{_≡_, refl}
+use mathlib.Core.Path.{_≡_}
 use mathlib.Core.Bool.{Bool, true, false, not}
 use mathlib.Core.Logic.{_⊎_, inl, inr, ⊎-elim}
 use mathlib.Core.List.{[], _∷_}
 use Prim.Native.Nat.{ℕ, _*_, _≤_, _<_}
 use native.Mathlib.Omega.{arith}
 use lib.Dec.{T}
-use lib.IntN.{ℤ, pos, negsuc, natAbs, _+ℤ_, _*ℤ_}
-use lib.Signed.{_≤ℤ_, _<ℤ_, ltZ, ltZ-yes, ltZ-no, ≤ℤ-refl}
+use lib.IntN.{ℤ, pos, _*ℤ_}
+use lib.Signed.{_≤ℤ_, _<ℤ_, ltZ, ltZ-yes, ltZ-no}
 use Rattle.whole.proofs.Difference.{diff, d-atom, d-le, d-lt, d-eq, of-le, of-lt}
-use Rattle.whole.proofs.Certificate.{quo, le!, le-times!, false!, g-le, g-lt, g-num, _⊞_, _⊠_}
+use Rattle.whole.proofs.Certificate.{quo, le!, false!, g-le, g-lt, g-num, _⊞_, _⊠_}
 
 pub ≤-trans : {a b c : ℤ} → a ≤ℤ b → b ≤ℤ c → a ≤ℤ c
 ≤-trans {a} {b} {c} h k = le! (a ∷ b ∷ c ∷ []) (g-le h ⊞ g-le k) (search quo depth 40) tt
@@ -18,9 +18,6 @@ pub ≤-trans : {a b c : ℤ} → a ≤ℤ b → b ≤ℤ c → a ≤ℤ c
 pub ≤-antisym : {a b : ℤ} → a ≤ℤ b → b ≤ℤ a → a ≡ b
 ≤-antisym {a} {b} h k =
     let da = d-atom a in let db = d-atom b in d-eq (search diff) (omega (arith, of-le h (search diff), of-le k (search diff)))
-
-pub ≤-of-≡ : {a b : ℤ} → a ≡ b → a ≤ℤ b
-≤-of-≡ {a} {b} e = rw e (≤ℤ-refl b)
 
 -- one of two numbers is at most the other
 pub ≤-or-< : (a b : ℤ) → (a ≤ℤ b) ⊎ (b <ℤ a)
@@ -37,14 +34,7 @@ pub ≤-unless : (a b : ℤ) → (b <ℤ a → ⊥) → a ≤ℤ b
 pub <-unless : (a b : ℤ) → (b ≤ℤ a → ⊥) → a <ℤ b
 <-unless a b f = ⊎-elim (λ h. absurd (f h)) (λ h. h) (≤-or-< b a)
 
--- ---- sums, products, squares
-
-pub +-mono : {a b c d : ℤ} → a ≤ℤ b → c ≤ℤ d → (a +ℤ c) ≤ℤ (b +ℤ d)
-+-mono {a} {b} {c} {d} h k = le! (a ∷ b ∷ c ∷ d ∷ []) (g-le h ⊞ g-le k) (search quo depth 40) tt
-
--- a positive factor is divided out
-pub cancel : {a b : ℤ} (k : ℤ) → pos 0 <ℤ k → (k *ℤ a) ≤ℤ (k *ℤ b) → a ≤ℤ b
-cancel {a} {b} k p h = le-times! (k ∷ a ∷ b ∷ []) (g-lt p) (g-le h ⊞ g-lt p) (search quo depth 40) tt
+-- ---- squares
 
 -- squares in order, with the larger number not negative, have their numbers in order
 pub sq-≤ : (t s : ℤ) → pos 0 ≤ℤ s → (t *ℤ t) ≤ℤ (s *ℤ s) → t ≤ℤ s
@@ -53,11 +43,6 @@ sq-≤ t s p h =
 
 pub sq-< : (t s : ℤ) → pos 0 ≤ℤ s → (t *ℤ t) <ℤ (s *ℤ s) → t <ℤ s
 sq-< t s p h = <-unless t s (λ q. false! (t ∷ s ∷ []) (g-lt h ⊞ g-le q ⊠ (g-le q ⊞ g-num 2 ⊠ p)) (search quo depth 40) tt)
-
--- a square is that of the number's size
-pub sq-abs : (a : ℤ) → a *ℤ a ≡ pos (natAbs a * natAbs a)
-sq-abs (pos n) = refl
-sq-abs (negsuc n) = refl
 
 -- ---- between the natural numbers and the whole numbers
 

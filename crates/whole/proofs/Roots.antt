@@ -3,7 +3,7 @@ use mathlib.Core.Path.{_≡_}
 use mathlib.Core.Bool.{Bool, true, false, not}
 use Prim.Native.Nat.{ℕ, zero, suc, _+_, _*_, _/_, _≤_, _<_}
 use native.Mathlib.Nat.{le-antisymm}
-use native.Mathlib.Omega.{arith}
+use native.Mathlib.Omega.{arith, by-contra}
 use lib.Dec.{T, leb, leb→le, nleb→lt}
 use lib.IntN.{pos}
 use Rattle.whole.specs.Root.{IsFloorRoot, IsRootUp, bump, fromQuarter, rootWithin, floorRoot, rootUp}
@@ -55,3 +55,7 @@ rootUp-is zero = record { reach = omega arith; least = λ v h. omega arith }
 rootUp-is (suc n) =
     let r = floorRoot-is n in
     record { reach = omega (arith, r .high); least = λ v h. sq-lt (floorRoot n) v (omega (arith, r .low, h)) }
+
+-- the number below it has a square below n
+pub rootUp-below : (n v : ℕ) → rootUp n ≡ suc v → v * v < n
+rootUp-below n v e = by-contra (suc (v * v)) n (λ k. omega (arith, rootUp-is n .least v (omega arith), e))

@@ -1,18 +1,16 @@
 -- How large a whole number is, and how `Within` goes through sums, differences, products and quotients.
 -- The bounds are numerals and compute, so that `fit (add (mul p q) (mul r s)) tt` shows that a sum of products fits an i64.
 use mathlib.Core.Path.{_≡_, refl, _∙_}
-use mathlib.Core.Bool.{Bool, true, _&&_}
-use mathlib.Core.List.{List, [], _∷_}
+use mathlib.Core.List.{[]}
 use Prim.Native.Nat.{ℕ, zero, suc, _+_, _*_, _/_, _^_, _≤_, _<_, zero-le}
 use native.Mathlib.Nat.{mul-le-mul, div-zero, div-mul-le-self, le-div-iff-mul-le}
 use native.Mathlib.Omega.{arith}
 use lib.Dec.{T, leb, ltb, leb→le, ltb→lt}
 use lib.IntN.{ℤ, pos, negsuc, negℤ, natAbs, _+ℤ_, _-ℤ_, _*ℤ_}
-use lib.ListN.{getD}
 use lib.Signed.{_≤ℤ_, mag, natAbs-le, quotZ}
 use mir.Syntax.{Width, w16, w64}
 use mir.Val.{SFits, hbits, toZ, ofZ}
-use mir.Facts.{toZ-ofZ, and-yes}
+use mir.Facts.{toZ-ofZ}
 use Rattle.whole.specs.Range.{Within}
 use Rattle.whole.proofs.Difference.{diff, d-atom, d-le, of-le}
 
@@ -34,6 +32,11 @@ abs-quot (pos m) (pos n) = refl
 abs-quot (pos m) (negsuc n) = abs-neg (pos (m / suc n))
 abs-quot (negsuc m) (pos n) = abs-neg (pos (suc m / n))
 abs-quot (negsuc m) (negsuc n) = refl
+
+-- what is not negative is its own size
+pub abs-is : {z : ℤ} → pos 0 ≤ℤ z → pos (natAbs z) ≡ z
+abs-is {z = pos n} h = refl
+abs-is {z = negsuc n} h = absurd (h .le)
 
 -- a number within b of zero lies between -b and b
 pub abs-low : {b : ℕ} {z : ℤ} → Within b z → negℤ (pos b) ≤ℤ z
@@ -88,9 +91,6 @@ wider {a} {b} p t = record { size = omega (arith, p .size, leb→le a b t) }
 pub along : {b : ℕ} {x y : ℤ} → x ≡ y → Within b y → Within b x
 along e p = rw e p
 
-pub abs-add : (x y : ℤ) → natAbs (x +ℤ y) ≤ natAbs x + natAbs y
-abs-add x y = add (lit x) (lit y) .size
-
 -- ---- an i64
 
 mag-le : (z : ℤ) → mag z ≤ natAbs z
@@ -115,14 +115,3 @@ widened f = simp (toZ-ofZ f) (fit (fitted f) tt)
 
 pub widened-is : {z : ℤ} → SFits w16 z → toZ w64 (ofZ w64 (toZ w16 (ofZ w16 z))) ≡ z
 widened-is f = toZ-ofZ (widened f) ∙ toZ-ofZ f
-
--- ---- a table: every number of a list within b, by one test that computes
-
-abbrev pub smallList : ℕ → List ℤ → Bool
-smallList b [] = true
-smallList b (z ∷ zs) = leb (natAbs z) b && smallList b zs
-
-pub small-at : (b : ℕ) (zs : List ℤ) → T (smallList b zs) → (n : ℕ) → Within b (getD zs n (pos 0))
-small-at b [] t n = record { size = omega arith }
-small-at b (z ∷ zs) t zero = record { size = leb→le (natAbs z) b (and-yes (leb (natAbs z) b) (smallList b zs) t .0) }
-small-at b (z ∷ zs) t (suc n) = small-at b zs (and-yes (leb (natAbs z) b) (smallList b zs) t .1) n

@@ -1,8 +1,8 @@
--- Vectors of two whole numbers and bounds on their length: Cauchy's inequality, and the triangle's, folded over a list.
-use mathlib.Core.List.{List, [], _∷_}
+-- Vectors of two whole numbers and bounds on their length: Cauchy's inequality, and the triangle's.
+use mathlib.Core.List.{[], _∷_}
 use lib.IntN.{ℤ, pos, negℤ, _+ℤ_, _-ℤ_, _*ℤ_}
 use lib.Signed.{_≤ℤ_, leZ-yes}
-use Rattle.whole.specs.Length.{Len, sumBy, All}
+use Rattle.whole.specs.Length.{Len}
 use Rattle.whole.proofs.Certificate.{quo, le!, g-le, g-num, g-sq, _⊞_, _⊠_}
 use Rattle.whole.proofs.Order.{≤-trans, sq-≤}
 
@@ -35,12 +35,6 @@ len-neg {x} {y} {a} h =
 pub len-root : {x y a : ℤ} (t : ℤ) → Len x y a → (t *ℤ t) ≤ℤ (x *ℤ x +ℤ y *ℤ y) → t ≤ℤ a
 len-root {a = a} t h k = sq-≤ t a (h .nonneg) (≤-trans k (h .square))
 
--- ---- over a list
-
+-- nothing has no length
 pub len-zero : Len (pos 0) (pos 0) (pos 0)
 len-zero = record { nonneg = leZ-yes tt; square = leZ-yes tt }
-
--- the sum of a list of vectors is at most as long as their bounds together
-pub len-sum : {A : Type 0} (x y a : A → ℤ) (vs : List A) → All (λ v. Len (x v) (y v) (a v)) vs → Len (sumBy x vs) (sumBy y vs) (sumBy a vs)
-len-sum x y a [] h = len-zero
-len-sum x y a (v ∷ vs) h = len-add (h .0) (len-sum x y a vs (h .1))

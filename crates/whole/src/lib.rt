@@ -47,11 +47,13 @@ fn root_below(x: u64, width: u64) -> u64
 }
 
 // The root rounded down: a magnitude in whole counts, from its square.
-// What the relay takes roots of is below 2^50, where twenty-five steps do.
+// What the relay takes roots of is below 2^50, where twenty-five steps do; of a current below 1024 counts it is below 2^32, where sixteen do.
 pub fn floor_root(x: u64) -> u64
     ensures { λ r. ⌜ r ≡ floorRoot x ⌝ }
 {
-    if x < 1125899906842624 {
+    if x < 4294967296 {
+        root_below(x, 65536)
+    } else if x < 1125899906842624 {
         root_below(x, 33554432)
     } else {
         root_below(x, 4294967296)

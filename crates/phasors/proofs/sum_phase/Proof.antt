@@ -41,12 +41,13 @@ small c =
     let e = c .loop .e in
     let six : 42000 * e ≤ 252000 = omega arith in
     inside-along (c .loop .inv .0)
-    (inside-wider (inside-total (cell (a .t1) (a .p)) 42000 e (λ k l. c .before .pre .2 k (omega arith))) (le→leb _ _ six))
+    (inside-wider (inside-total (cell (a .t1) (a .p)) 42000 e (λ k l. c .before .pre .2 (a .p) k (c .before .pre .0) (omega arith))) (le→leb _ _ six))
 
 plus-requires : tie.Need-plus-requires Inv-loop μ-loop
 plus-requires c κs =
     let l = c .before .before in
-    (inside-wider (small l) tt, inside-wider (l .before .pre .2 (l .loop .e) (c .before .loop-test .taken)) tt)
+    let h = l .before .pre in
+    (inside-wider (small l) tt, inside-wider (h .2 (l .before .args .p) (l .loop .e) (h .0) (c .before .loop-test .taken)) tt)
 
 add-e : tie.Need-add-e Inv-loop μ-loop
 add-e c = search needs
