@@ -1,5 +1,5 @@
-// All phasors of a window, measured once as a decision measures them, callable from C: bench/ counts what that costs. For that count alone,
-// and never part of the library.
+// All phasors of a window, measured once as a decision measures them, and the two roots, callable from C: bench/ counts what they cost. For
+// that count alone, and never part of the library.
 
 // A component of Va + Vb + Vc plus the current of a phase at an end, both counted from 0: 0 for the real part, else the imaginary. Which
 // current it is shows only when the call is made, so all of them are measured.
@@ -20,4 +20,16 @@ pub extern "C" fn cost_phasors(window: &[i16], ends: u64, phase: u64, end: u64, 
         }
     }
     0
+}
+
+// The root rounded up, as an end's restraint takes it.
+#[no_mangle]
+pub extern "C" fn cost_root_up(x: u64) -> u64 {
+    whole::root_up(x)
+}
+
+// The root rounded down, as the differential takes it.
+#[no_mangle]
+pub extern "C" fn cost_floor_root(x: u64) -> u64 {
+    whole::floor_root(x)
 }

@@ -4,6 +4,9 @@
 ghost use Rattle.whole.specs.Range.{Within};
 ghost use Rattle.plane.specs.Plane.{AllInside, phasorSize};
 ghost use Rattle.settings.specs.Fields.{Ranges};
+ghost use Rattle.differential.specs.Differential.{Sized, AllSized};
+use differential::Comparison;
+use differential::Comparisons;
 use plane::Phases;
 use plane::Phasor;
 
@@ -109,6 +112,79 @@ pub extern "C" fn trial_distance(s: &[u8], r: u64, window: &[i16], which: u64) -
                     let i = phasors::local(phasors::currents(window, n));
                     return quantity(s, r as i64, v, i, which);
                 }
+            }
+            0
+        }
+        settings::Checked::Bad(_) => 0,
+    }
+}
+
+// What is compared in one phase: a 0, b 1, else c.
+fn of_phase(x: Comparisons, phase: u64) -> Comparison
+    requires { ⌜ AllSized x ⌝ }
+    ensures { λ r. ⌜ Sized r ⌝ }
+{
+    if phase == 0 {
+        return x.a;
+    }
+    if phase == 1 { x.b } else { x.c }
+}
+
+// What is compared in a phase: 0 for s, 1 for U, else the floor of the root of 4096 s.
+#[no_mangle]
+pub extern "C" fn trial_compared(window: &[i16], ends: u64, phase: u64, which: u64) -> u64 {
+    if ends <= 6 {
+        let n = ends as usize;
+        if phase < 3 {
+            if window.len() == samples::FRAMES * samples::channels(n) {
+                let line = differential::of_line(phasors::currents(window, n), n);
+                let x = of_phase(line, phase);
+                if which == 0 {
+                    return x.square;
+                }
+                if which == 1 {
+                    return x.restraint;
+                }
+                return differential::magnitude(x);
+            }
+        }
+    }
+    0
+}
+
+// Whether a phase operates, 1 or 0, at a slope up to 100 and with a pickup up to 42000.
+#[no_mangle]
+pub extern "C" fn trial_operates(
+    window: &[i16],
+    ends: u64,
+    phase: u64,
+    slope: u64,
+    pickup: u64,
+) -> u64 {
+    if ends <= 6 {
+        let n = ends as usize;
+        if phase < 3 && slope <= 100 && pickup <= 42000 {
+            if window.len() == samples::FRAMES * samples::channels(n) {
+                let line = differential::of_line(phasors::currents(window, n), n);
+                let x = of_phase(line, phase);
+                if differential::operates(slope, pickup, x) {
+                    return 1;
+                }
+            }
+        }
+    }
+    0
+}
+
+// The phases that operate, by a record that the check finds good: a 1, b 2, c 4.
+#[no_mangle]
+pub extern "C" fn trial_phases(s: &[u8], window: &[i16]) -> u64 {
+    match settings::check(s) {
+        settings::Checked::Good => {
+            let n = settings::fields::ends(s) as usize;
+            if window.len() == samples::FRAMES * samples::channels(n) {
+                let x = differential::of_line(phasors::currents(window, n), n);
+                return differential::bits(s, x) as u64;
             }
             0
         }

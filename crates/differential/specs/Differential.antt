@@ -1,0 +1,72 @@
+-- Document 01, "Percentage differential" (source documents 000 and 003): what is compared in a phase, and when it operates. In these
+-- definitions i gives the phasor of each end in the phase, the ends counted from 0, and n is N, how many there are.
+use Prim.Native.Nat.{ℕ, _*_, _≤_}
+use mathlib.Core.List.{[], _∷_}
+use mathlib.Core.Bool.{Bool, _&&_}
+use lib.Dec.{leb, ltb}
+use Rattle.whole.specs.Root.{floorRoot, rootUp}
+use Rattle.whole.specs.Sum.{sumOf}
+use Rattle.whole.specs.Bits.{bits}
+use Rattle.plane.specs.declared.Phasor.{Phasor}
+use Rattle.plane.specs.Plane.{squaredMagnitude}
+use Rattle.phasors.specs.Grid.{total}
+use Rattle.differential.specs.declared.Comparison.{Comparison}
+use Rattle.differential.specs.declared.Comparisons.{Comparisons}
+
+-- ---- what is compared
+
+-- "the differential is the sum of the N phasors, s its squared magnitude"
+unfoldable pub square : (ℕ → Phasor) → ℕ → ℕ
+square i n = squaredMagnitude (total i n)
+
+-- "the smallest whole number whose square is at least 4096 times that end's squared magnitude, so in sixty-fourths of a count, rounded up"
+unfoldable pub endRestraint : Phasor → ℕ
+endRestraint i = rootUp (4096 * squaredMagnitude i)
+
+-- "The restraint U is the sum over ends"
+unfoldable pub restraint : (ℕ → Phasor) → ℕ → ℕ
+restraint i n = sumOf (λ e. endRestraint (i e)) n
+
+-- s and U of a phase
+abbrev pub comparison : (ℕ → Phasor) → ℕ → Comparison
+comparison i n = record { square = square i n; restraint = restraint i n }
+
+-- and of each phase
+abbrev pub comparisons : (ℕ → ℕ → Phasor) → ℕ → Comparisons
+comparisons i n = record { a = comparison (i 0) n; b = comparison (i 1) n; c = comparison (i 2) n }
+
+-- "floor of the root of 4096 s": the magnitude of the differential, in sixty-fourths of a count
+unfoldable pub magnitude : Comparison → ℕ
+magnitude x = floorRoot (4096 * x .square)
+
+-- ---- when a phase operates
+
+-- "The phase operates exactly when s >= pickup² and 40960000 s > (K U)²."
+unfoldable pub operates : ℕ → ℕ → Comparison → Bool
+operates K pickup x = leb (pickup * pickup) (x .square) && ltb (K * x .restraint * (K * x .restraint)) (40960000 * x .square)
+
+-- "phases a=1, b=2, c=4"
+unfoldable pub operatingBits : ℕ → ℕ → Comparisons → ℕ
+operatingBits K pickup x = bits (operates K pickup (x .a) ∷ operates K pickup (x .b) ∷ operates K pickup (x .c) ∷ [])
+
+-- ---- how large they are, for phasors within 42000 of zero and up to six ends
+
+-- 64 times the root of 2 times 42000², rounded up
+abbrev pub endMost : ℕ
+endMost = 3801407
+
+abbrev pub restraintMost : ℕ
+restraintMost = 6 * endMost
+
+-- 2 times (6 times 42000)²
+abbrev pub squareMost : ℕ
+squareMost = 127008000000
+
+pub record Sized (x : Comparison) : Type 0 where
+  pub square-size : x .square ≤ squareMost
+  pub restraint-size : x .restraint ≤ restraintMost
+
+pub record AllSized (x : Comparisons) : Type 0 where
+  pub sized-a : Sized (x .a)
+  pub sized-b : Sized (x .b)
+  pub sized-c : Sized (x .c)
