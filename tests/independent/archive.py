@@ -7,6 +7,7 @@ import tempfile
 
 ROOT = os.path.dirname(os.path.dirname(os.path.dirname(os.path.abspath(__file__))))
 KIT = ['sh', os.path.join(ROOT, 'tests', 'kit.sh')]
+TRIAL = os.path.join(ROOT, 'build', 'libtrial.a')
 
 
 def arguments(description, count):
@@ -41,17 +42,32 @@ def batches(followed, count, most):
 
 
 def compare(driver, calls, text, as_bytes, difference):
-    """Runs one batch; ends at the first difference. as_bytes is what a call should leave, difference shows it to a person."""
+    """Runs one batch, and gives what each call left; ends at the first difference. as_bytes is what a call should leave,
+    difference shows it to a person."""
     with tempfile.TemporaryFile() as out:
         run = subprocess.run(KIT + ['run', driver], input=text, stdout=out, check=False)
         out.seek(0)
         answers = out.read()
-    at = 0
+    at, left = 0, []
     for made in calls:
         wanted = as_bytes(made)
         got = answers[at:at + len(wanted)]
         if got != wanted:
             sys.exit(difference(made, got, run.returncode))
         at += len(wanted)
+        left.append(got)
     if run.returncode != 0 or at != len(answers):
         sys.exit(f'the driver ended with status {run.returncode} and {len(answers) - at} bytes too many')
+    return left
+
+
+def report(sides, shown):
+    """How often each side of a rule was seen; one that was not is a fault."""
+    for what in sides:
+        print(f'{what}: {shown[what]}')
+    stop_at([f'{what}: never seen' for what in sides if not shown[what]])
+
+
+def stop_at(faults):
+    if faults:
+        sys.exit('\n'.join(faults))

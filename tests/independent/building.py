@@ -1,5 +1,5 @@
-"""What windows.py and hand_checks.py build with: records, and windows channel
-by channel."""
+"""What windows.py, currents.py and hand_checks.py build with: records, and
+windows channel by channel."""
 import math
 import random
 import struct
@@ -83,10 +83,14 @@ def pulse(size: int, n: int) -> list[int]:
     return [size if place == n else 0 for place in range(16)]
 
 
+def added(*channels: list[int]) -> list[int]:
+    return [sum(at_n) for at_n in zip(*channels, strict=True)]
+
+
 def exact(value: tuple[int, int]) -> list[int]:
     """Two samples with exactly this phasor (see P1 and P6)."""
     re, im = value
-    return [x + y for x, y in zip(pulse(8 * re, 0), pulse(-8 * im, 4))]
+    return added(pulse(8 * re, 0), pulse(-8 * im, 4))
 
 
 def wave(value: complex) -> list[int]:
@@ -102,10 +106,25 @@ def largest(shift: int) -> list[int]:
             for n in range(16)]
 
 
+def square_wave(shift: int) -> list[int]:
+    """The largest samples, eight of each sign, so many places on. The largest
+    A² + B² of all samples is among these."""
+    return [LARGEST if (n + shift) % 16 < 8 else -LARGEST for n in range(16)]
+
+
 def window(by_channel: list[list[int]], ends: int) -> list[int]:
     """The frames of these channels; those not given are zero."""
     by_channel = by_channel + [[0] * 16] * (channels(ends) - len(by_channel))
     return [samples[n] for n in range(16) for samples in by_channel]
+
+
+def of_phases(volts: list[list[int]],
+              by_phase: list[list[list[int]]]) -> list[int]:
+    """The frames of these voltages, and of the currents of each phase, which
+    are given by end."""
+    by_channel = volts + [samples for of_end in zip(*by_phase, strict=True)
+                          for samples in of_end]
+    return window(by_channel, len(by_phase[0]))
 
 
 def one_channel(label: str, line: Line, index: int,

@@ -7,7 +7,6 @@ compare_measuring.py [--count N] [--seed S] [--archive PATH]
 It compares N windows at least: those of the hand checks, all fixed ones, those not to be measured, then random ones. The first
 difference ends it, and so do a hand check that measuring.py does not meet and a side of a rule that no window showed.
 """
-import os
 import random
 import struct
 import sys
@@ -24,7 +23,6 @@ import refused  # noqa: E402
 import seen  # noqa: E402
 import windows  # noqa: E402
 
-TRIAL = os.path.join(archive.ROOT, 'build', 'libtrial.a')
 BATCH = 1000
 LONGEST = 2 * measuring.length(6)  # in bytes
 NONE_MISSING = 65535
@@ -147,24 +145,12 @@ def what_shows(made):
     return chain(seen.seen(made.result), map(seen.JUST_ENOUGH.format, made.just_enough))
 
 
-def report(shown):
-    """How often each side of a rule was seen; one that was not is a fault."""
-    sides = [*seen.wanted(), NOT_MEASURED]
-    for what in sides:
-        print(f'{what}: {shown[what]}')
-    stop_at([f'{what}: never seen' for what in sides if not shown[what]])
-
-
-def stop_at(faults):
-    if faults:
-        sys.exit('\n'.join(faults))
-
-
 def main():
     words = archive.arguments(__doc__, 12000)
     by_hand = list(hand_checks.checks())
-    stop_at([f'{what}: measuring.py gives {got}, document 01 {expected}' for what, got, expected in by_hand if got != expected])
-    archive.build('trial_driver', words.archive or TRIAL)
+    archive.stop_at([f'{what}: measuring.py gives {got}, document 01 {expected}'
+                     for what, got, expected in by_hand if got != expected])
+    archive.build('trial_driver', words.archive or archive.TRIAL)
     shown, total = Counter(), 0
     first = list(fixed())
     all_windows = chain(first, endless(random.Random(words.seed)))
@@ -172,7 +158,7 @@ def main():
         archive.compare('trial_driver', calls, text, as_bytes, difference)
         shown.update(chain.from_iterable(map(what_shows, calls)))
         total += len(calls)
-    report(shown)
+    archive.report([*seen.wanted(), NOT_MEASURED], shown)
     print(f'independent comparison of measuring: {len(by_hand)} hand checks, {total} windows agree, seed {words.seed}')
 
 

@@ -163,11 +163,16 @@ def sums(samples: list[int]) -> Phasor:
                   -sum_of_products(samples, SINES))
 
 
-def phasor(samples: list[int]) -> Phasor:
-    result = both_rounded(sums(samples), 131072)
+def phasor_of(a_and_b: Phasor) -> Phasor:
+    """The phasor of a channel with these sums."""
+    result = both_rounded(a_and_b, 131072)
     # "Every component then lies within 42000 of zero."
     assert abs(result.re) <= 42000 and abs(result.im) <= 42000
     return result
+
+
+def phasor(samples: list[int]) -> Phasor:
+    return phasor_of(sums(samples))
 
 
 def phasors(numbers: list[int], ends: int) -> list[Phasor]:
