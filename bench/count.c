@@ -3,6 +3,8 @@
 ** counts from the function's first instruction to its return. The count is the same in every run on one machine; each turn of a repeated
 ** string instruction is a step. For Linux on x86-64.
 */
+#include <stdio.h>
+
 #include "count.h"
 
 enum { TRACEME = 0, GETREGS = 12, SINGLESTEP = 9, RIP = 16, RSP = 19, REGISTERS = 27, STOP = 19 };
@@ -46,4 +48,9 @@ long count(void (*call)(void), const void *function) {
   while (step(child))
     if (registers[RIP] == (unsigned long)function) return steps_inside(child);
   return -1;
+}
+
+void print_ratio(long mine, long theirs) {
+  long hundredths = (100 * mine + theirs / 2) / theirs;
+  printf("ratio %ld.%02ld\n", hundredths / 100, hundredths % 100);
 }

@@ -46,8 +46,8 @@ int main(void) {
       printf("phasors, %d ends: not counted\n", (int)ends);
       return 1;
     }
-    printf("phasors, %d ends: %ld instructions, plain C %ld, ratio %ld.%02ld\n", (int)ends, mine, theirs, mine / theirs,
-           100 * mine / theirs % 100);
+    printf("phasors, %d ends: %ld instructions, plain C %ld, ", (int)ends, mine, theirs);
+    print_ratio(mine, theirs);
   }
   return 0;
 }
