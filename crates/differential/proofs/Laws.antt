@@ -9,7 +9,7 @@ use lib.Dec.{lt→ltb}
 use lib.IntN.{pos}
 use Rattle.whole.specs.Root.{floorRoot}
 use Rattle.whole.specs.Sum.{sumOf}
-use Rattle.whole.proofs.Certificate.{quo, le!, g-le, g-num, g-eq, _⊞_}
+use Rattle.whole.proofs.Certificate.{quo, le!, g-le, g-eq, _⊞_}
 use Rattle.whole.proofs.Order.{le-ℕ}
 use Rattle.whole.proofs.Roots.{sq-le, floorRoot-is, rootUp-is}
 use Rattle.plane.specs.declared.Phasor.{Phasor}
@@ -21,7 +21,7 @@ use Rattle.phasors.proofs.Zero.{phasor-zero, total-zero}
 use Rattle.differential.specs.Differential.{square, endRestraint, restraint, comparison}
 use Rattle.differential.specs.Laws.{SmallerSlope, NoneAt100, NeverTooSmall, ZeroWindow}
 use Rattle.differential.proofs.Rule.{operates-rule}
-use Rattle.differential.proofs.OneEnd.{end-reaches}
+use Rattle.differential.proofs.OneEnd.{end-long}
 
 unless : (b : Bool) → (b ≡ true → ⊥) → b ≡ false
 unless true f = absurd (f refl)
@@ -35,15 +35,7 @@ smaller-slope smaller K pickup x less e =
 
 -- ---- the sum restraint
 
--- 64 times a phasor is at most as long as what it adds to the restraint
-end-long : (i : Phasor) → Long (scaled (pos 64) i) (endRestraint i)
-unfolding scaled dot
-end-long i = record {
-  nonneg = g-num (endRestraint i);
-  square = le! (i .re ∷ i .im ∷ pos (endRestraint i) ∷ []) (g-le (end-reaches i)) (search quo depth 40) tt;
-}
-
--- so 64 times the differential is at most as long as U
+-- each end is at most as long as what it adds to the restraint, so the differential is at most as long as U
 differential-long : (i : ℕ → Phasor) (n : ℕ) → 4096 * square i n ≤ restraint i n * restraint i n
 unfolding square restraint scaled dot
 differential-long i n =

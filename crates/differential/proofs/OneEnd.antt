@@ -20,9 +20,17 @@ use Rattle.differential.specs.Demand3.{exactMagnitude}
 
 -- ---- what the roots mean, over the parts
 
-pub end-reaches : (i : Phasor) → (pos 4096 *ℤ squared i) ≤ℤ (pos (endRestraint i) *ℤ pos (endRestraint i))
+end-reaches : (i : Phasor) → (pos 4096 *ℤ squared i) ≤ℤ (pos (endRestraint i) *ℤ pos (endRestraint i))
 unfolding endRestraint
 end-reaches i = rw (sym (squared-magnitude-is i)) (le-ℤ (rootUp-is (4096 * squaredMagnitude i) .reach))
+
+-- 64 times a phasor is at most as long as what it adds to the restraint
+pub end-long : (i : Phasor) → Long (scaled (pos 64) i) (endRestraint i)
+unfolding scaled dot
+end-long i = record {
+  nonneg = g-num (endRestraint i);
+  square = le! (i .re ∷ i .im ∷ pos (endRestraint i) ∷ []) (g-le (end-reaches i)) (search quo depth 40) tt;
+}
 
 pub end-least : (i : Phasor) (v : ℕ) → endRestraint i ≡ suc v → (pos v *ℤ pos v) <ℤ (pos 4096 *ℤ squared i)
 unfolding endRestraint
@@ -65,13 +73,8 @@ module _ {d c : ℕ} (corner : Corner d c) {x i : Phasor} (near : NearTo d x i) 
   pub end-below : (m : ℕ) → 64 * exactMagnitude m x ≤ m * (d * endRestraint i + c)
   unfolding scaled minus dot
   end-below m =
-      let u = endRestraint i in
       let l = exactMagnitude m x in
-      let grid : Long (scaled (pos (64 * d)) i) (d * u) = record {
-        nonneg = g-num (d * u);
-        square = le! (pos d ∷ i .re ∷ i .im ∷ pos u ∷ []) (g-sq (pos d) ⊠ g-le (end-reaches i)) (search quo depth 40) tt;
-      } in
-      let both = len-scale (pos m) (g-num m) (len-add grid deviates) in
+      let both = len-scale (pos m) (g-num m) (len-add (len-scale (pos d) (g-num d) (end-long i)) deviates) in
       le-ℕ
       (len-root (pos (64 * l)) both
       (le! (pos m ∷ pos d ∷ x .re ∷ x .im ∷ i .re ∷ i .im ∷ pos l ∷ []) (g-num 4096 ⊠ g-le (exact-low m x)) (search quo depth 40) tt))

@@ -1,5 +1,5 @@
--- The sum of a phase over the ends: how it grows, how large it gets, and that the sum of a filled grid is that of the currents in the window;
--- and what stands at end 1 of one.
+-- The sum of a phase over the ends: how it grows, how large it gets, that the sum of a filled grid is that of the currents in the window,
+-- what stands at end 1 of one, and the triangle inequality over the ends.
 use mathlib.Core.Path.{_≡_, refl, _∙_}
 use mathlib.Core.List.{List, [], _∷_}
 use Prim.Native.Nat.{ℕ, zero, suc, _+_, _*_, _<_, _≤_, zero-le}

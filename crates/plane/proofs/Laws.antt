@@ -1,5 +1,5 @@
--- What the operations mean: Re(p q*) is the real part of that product, -j is the complex number (0, -1), a square is not negative, and each
--- component is rounded as document 01 says.
+-- What the operations mean: Re(p q*) is the real part of that product, -j is the complex number (0, -1), a square is not negative, each
+-- component is rounded as document 01 says, and what |p|² is as a natural number.
 use mathlib.Core.Path.{_≡_, refl}
 use Prim.Native.Nat.{ℕ, _+_, _*_, _%_, _≤_}
 use lib.Dec.{T, ltb, ltb→lt}
