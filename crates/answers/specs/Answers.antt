@@ -1,25 +1,29 @@
 -- Document 01, "Numbers given back": each answer's number and place.
-use Prim.Native.Nat.{ℕ, _+_, _*_}
+use Prim.Native.Nat.{ℕ, _+_, _*_, _/_, _%_}
 use mathlib.Core.Bool.{Bool, cond}
 use lib.Dec.{eqb}
 use Rattle.answers.specs.declared.Answer.{Answer}
-use Rattle.answers.specs.declared.Answer.the-variants.{Done, NoSettings, NoRoom, EntryLength, OutOfRange, NothingPending, Differs, NoRelay}
+use Rattle.answers.specs.declared.Answer.the-variants.{Done, NoSettings, WindowLength, NoRoom, MissingSample, EntryLength, OutOfRange, NothingPending, Differs, NoRelay}
 
 abbrev pub number : Answer → ℕ
 number Done = 0
 number NoSettings = 1
+number WindowLength = 2
 number NoRoom = 3
+number (MissingSample at) = 4
 number EntryLength = 5
 number (OutOfRange at) = 6
 number NothingPending = 7
 number (Differs at) = 8
 number NoRelay = 17
 
--- An offset where the table has one, else 0.
+-- The index or the offset where the table has one, else 0.
 abbrev pub place : Answer → ℕ
 place Done = 0
 place NoSettings = 0
+place WindowLength = 0
 place NoRoom = 0
+place (MissingSample at) = at
 place EntryLength = 0
 place (OutOfRange at) = at
 place NothingPending = 0
@@ -29,6 +33,13 @@ place NoRelay = 0
 -- "C gets one number back: 256 times the place, plus the number given back."
 abbrev pub givenBack : Answer → ℕ
 givenBack a = 256 * place a + number a
+
+-- And taken apart again
+abbrev pub numberIn : ℕ → ℕ
+numberIn r = r % 256
+
+abbrev pub placeIn : ℕ → ℕ
+placeIn r = r / 256
 
 -- Done, or refused.
 abbrev pub isDone : Answer → Bool

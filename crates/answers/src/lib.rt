@@ -3,11 +3,13 @@ ghost use mathlib.Core.Path.{_≡_};
 ghost use Prim.Native.Nat.{_<_};
 ghost use Rattle.answers.specs.Answers.{number, place, givenBack, isDone};
 
-// Each answer of the table. A place is an offset in a record.
+// Each answer of the table. A place is an index in a window, or an offset in a record.
 pub enum Answer {
     Done,
     NoSettings,
+    WindowLength,
     NoRoom,
+    MissingSample(u16),
     EntryLength,
     OutOfRange(u8),
     NothingPending,
@@ -19,9 +21,13 @@ pub const DONE: u64 = 0;
 
 pub const NO_SETTINGS: u64 = 1;
 
+pub const OTHER_WINDOW_LENGTH: u64 = 2;
+
 pub const NO_ROOM: u64 = 3;
 
-pub const ENTRY_LENGTH: u64 = 5;
+pub const MISSING_SAMPLE: u64 = 4;
+
+pub const OTHER_ENTRY_LENGTH: u64 = 5;
 
 pub const OUT_OF_RANGE: u64 = 6;
 
@@ -38,8 +44,10 @@ fn number(a: Answer) -> u64
     match a {
         Answer::Done => DONE,
         Answer::NoSettings => NO_SETTINGS,
+        Answer::WindowLength => OTHER_WINDOW_LENGTH,
         Answer::NoRoom => NO_ROOM,
-        Answer::EntryLength => ENTRY_LENGTH,
+        Answer::MissingSample(_) => MISSING_SAMPLE,
+        Answer::EntryLength => OTHER_ENTRY_LENGTH,
         Answer::OutOfRange(_) => OUT_OF_RANGE,
         Answer::NothingPending => NOTHING_PENDING,
         Answer::Differs(_) => DIFFERS,
@@ -47,18 +55,20 @@ fn number(a: Answer) -> u64
     }
 }
 
-// Its place: an offset where the table has one, else 0.
-fn place(a: Answer) -> u8
+// Its place: the index or the offset where the table has one, else 0.
+fn place(a: Answer) -> u16
     ensures { λ r. ⌜ r ≡ place a ⌝ }
 {
     match a {
         Answer::Done => 0,
         Answer::NoSettings => 0,
+        Answer::WindowLength => 0,
         Answer::NoRoom => 0,
+        Answer::MissingSample(at) => at,
         Answer::EntryLength => 0,
-        Answer::OutOfRange(at) => at,
+        Answer::OutOfRange(at) => at as u16,
         Answer::NothingPending => 0,
-        Answer::Differs(at) => at,
+        Answer::Differs(at) => at as u16,
         Answer::NoRelay => 0,
     }
 }
@@ -70,10 +80,13 @@ pub fn is_done(a: Answer) -> bool
     number(a) == DONE
 }
 
+// What a place counts in what C gets.
+const PLACE: u64 = 256;
+
 // What C gets: 256 times the place, plus the number.
 pub fn given_back(a: Answer) -> u64
     ensures { λ r. ⌜ r ≡ givenBack a ⌝ }
 {
     let at = place(a);
-    256 * (at as u64) + number(a)
+    PLACE * (at as u64) + number(a)
 }

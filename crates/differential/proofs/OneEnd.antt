@@ -5,7 +5,7 @@ use mathlib.Core.Path.{_≡_, refl, sym}
 use mathlib.Core.List.{[], _∷_}
 use Prim.Native.Nat.{ℕ, zero, suc, _+_, _*_, _/_, _≤_, _<_}
 use native.Mathlib.Omega.{arith}
-use lib.IntN.{pos, _-ℤ_, _*ℤ_}
+use lib.IntN.{pos, _*ℤ_}
 use lib.Signed.{_≤ℤ_, _<ℤ_}
 use Rattle.whole.proofs.Certificate.{quo, le!, g-le, g-lt, g-num, g-sq, _⊞_, _⊠_}
 use Rattle.whole.proofs.Order.{le-ℤ, lt-ℤ, le-ℕ}
@@ -32,7 +32,7 @@ end-long i = record {
   square = le! (i .re ∷ i .im ∷ pos (endRestraint i) ∷ []) (g-le (end-reaches i)) (search quo depth 40) tt;
 }
 
-pub end-least : (i : Phasor) (v : ℕ) → endRestraint i ≡ suc v → (pos v *ℤ pos v) <ℤ (pos 4096 *ℤ squared i)
+end-least : (i : Phasor) (v : ℕ) → endRestraint i ≡ suc v → (pos v *ℤ pos v) <ℤ (pos 4096 *ℤ squared i)
 unfolding endRestraint
 end-least i v e = rw (sym (squared-magnitude-is i)) (lt-ℤ (rootUp-below (4096 * squaredMagnitude i) v e))
 

@@ -34,20 +34,26 @@ F m x n = exactMagnitude m (total x n)
 
 -- ---- the two halves, with a band for each end
 
+-- "100(F + 1 + 196608Nm) > K L for every m", with the band for 196608
+abbrev pub NotBelow : ℕ → ℕ → ℕ → (ℕ → Phasor) → Type 0
+NotBelow band K n x = (m : ℕ) → 1 ≤ m → K * L m x n < 100 * (F m x n + 1 + band * n * m)
+
+-- "for some m, 100F >= K H + 19660800Nm": with this m, and 100 times the band for 19660800
+abbrev pub Above : ℕ → ℕ → ℕ → (ℕ → Phasor) → ℕ → Type 0
+Above band K n x m = K * H m x n + 100 * band * n * m ≤ 100 * F m x n
+
 -- what a half says of a phase: of K, the pickup, N, x and i
 abbrev pub Half : Type 1
 Half = ℕ → ℕ → ℕ → (ℕ → Phasor) → (ℕ → Phasor) → Type 0
 
--- "If a phase operates, 100(F + 1 + 196608Nm) > K L for every m.", with the band for 196608
+-- "If a phase operates, .."
 abbrev pub FirstHalf : ℕ → Half
-FirstHalf band K pickup n x i =
-    operates K pickup (comparison i n) ≡ true → (m : ℕ) → 1 ≤ m → K * L m x n < 100 * (F m x n + 1 + band * n * m)
+FirstHalf band K pickup n x i = operates K pickup (comparison i n) ≡ true → NotBelow band K n x
 
--- "If s >= pickup² and for some m, 100F >= K H + 19660800Nm, it operates.", with 100 times the band for 19660800
+-- "If s >= pickup² and for some m, .., it operates."
 abbrev pub SecondHalf : ℕ → Half
 SecondHalf band K pickup n x i =
-    pickup * pickup ≤ square i n → (m : ℕ) → 1 ≤ m → K * H m x n + 100 * band * n * m ≤ 100 * F m x n →
-    operates K pickup (comparison i n) ≡ true
+    pickup * pickup ≤ square i n → (m : ℕ) → 1 ≤ m → Above band K n x m → operates K pickup (comparison i n) ≡ true
 
 -- Either half, for whatever is rounded near to the sums by d, whichever way a tie goes
 abbrev pub Whenever : ℕ → Half → Type 0

@@ -1,15 +1,18 @@
--- The numbers of bytes: how many they are, each of them, and a list that is filled with them.
-use Prim.Native.Nat.{ℕ, zero, suc, _+_, _*_, _/_, _<_}
-use mathlib.Core.Path.{_≡_, refl, ap₂, _∙_}
+-- The numbers of bytes: how many they are, when they are as many as a window has, each of them, and a list that is filled with them.
+use Prim.Native.Nat.{ℕ, zero, suc, _+_, _*_, _/_, _<_, _≤_}
+use mathlib.Core.Path.{_≡_, refl, sym, ap₂, _∙_}
 use mathlib.Core.List.{List, [], _∷_}
+use mathlib.Core.Bool.{Bool, true, false, cond, _&&_}
 use native.Mathlib.Nat.{not-suc-le-zero}
 use native.Mathlib.Numerals.{add-one}
 use native.Mathlib.Omega.{arith}
+use borrow.Author.Tests.{eq-eqb, ne-eqb, le-leb, lt-leb, eqb-true, eqb-false}
+use lib.Dec.{eqb, leb}
 use lib.IntN.{ℤ, pos}
 use lib.ListN.{length, take, set, getD}
-use lib.Seq.{take-suc, take-suc-set}
+use lib.Seq.{take-suc, take-suc-set, take-all}
 use Rattle.whole.specs.TwosComplement.{signed}
-use Rattle.samples.specs.Window.{numbersOf, Holds}
+use Rattle.samples.specs.Window.{windowLength, numbersOf, Holds, count}
 
 pub numbers-length : (b : List ℕ) → length (numbersOf b) ≡ length b / 2
 unfolding numbersOf
@@ -20,6 +23,40 @@ numbers-length (x ∷ y ∷ b) = omega (arith, numbers-length b)
 -- bytes that hold n numbers give n numbers
 pub held : (n : ℕ) (b : List ℕ) → Holds n b → length (numbersOf b) ≡ n
 held n b h = omega (arith, numbers-length b)
+
+-- how many are taken: where a byte is over, where they are too many, and else
+module _ (b : List ℕ) where
+  pub count-odd : (2 * (length b / 2) ≡ length b → ⊥) → 0 ≡ count b
+  count-odd h = rw (ne-eqb (2 * (length b / 2)) (length b) h)
+
+  pub count-long : 2 * (length b / 2) ≡ length b → windowLength 6 < length b / 2 → 0 ≡ count b
+  count-long h l = rw (eq-eqb (2 * (length b / 2)) (length b) h, lt-leb (length b / 2) (windowLength 6) l)
+
+  pub count-all : 2 * (length b / 2) ≡ length b → length b / 2 ≤ windowLength 6 → length b / 2 ≡ count b
+  count-all h l = rw (eq-eqb (2 * (length b / 2)) (length b) h, le-leb (length b / 2) (windowLength 6) l)
+
+  counted : (n : ℕ) → 0 < n → count b ≡ n → Holds n b
+  counted n p e = by-tests (eqb (2 * (length b / 2)) (length b)) refl (leb (length b / 2) (windowLength 6)) e
+    where
+      by-tests : (x : Bool) → eqb (2 * (length b / 2)) (length b) ≡ x → (y : Bool) → cond (x && y) (length b / 2) 0 ≡ n → Holds n b
+      by-tests true t true e = omega (arith, eqb-true (2 * (length b / 2)) (length b) t)
+      by-tests true t false e = absurd (omega arith)
+      by-tests false t y e = absurd (omega arith)
+
+  -- so many are taken as a window of N ends has, exactly where the bytes hold a window of N ends
+  pub count-window : (N : ℕ) → N ≤ 6 → eqb (count b) (windowLength N) ≡ eqb (length b) (2 * windowLength N)
+  count-window N few = by-test (eqb (length b) (2 * windowLength N)) refl
+    where
+      by-test : (x : Bool) → eqb (length b) (2 * windowLength N) ≡ x → eqb (count b) (windowLength N) ≡ x
+      by-test true t =
+          let h : length b ≡ 2 * windowLength N = eqb-true (length b) (2 * windowLength N) t in
+          eq-eqb (count b) (windowLength N) (sym (count-all (omega (arith, h)) (omega (arith, h))) ∙ omega (arith, h))
+      by-test false t =
+          ne-eqb (count b) (windowLength N) (λ e. eqb-false (length b) (2 * windowLength N) t (counted (windowLength N) (omega arith) e))
+
+-- and all the numbers are taken then
+pub count-held : (n : ℕ) (b : List ℕ) → Holds n b → take n (numbersOf b) ≡ numbersOf b
+count-held n b h = take-all n (numbersOf b) (omega (arith, numbers-length b))
 
 -- the number at i comes of the bytes at 2i and 2i + 1
 pub number-at : (b : List ℕ) (i : ℕ) → 2 * i + 1 < length b → getD (numbersOf b) i (pos 0) ≡ signed (getD b (2 * i) 0 * 256 + getD b (2 * i + 1) 0)

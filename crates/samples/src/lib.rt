@@ -1,9 +1,9 @@
 // A window of samples: its numbers out of big-endian bytes, and its first missing one.
 ghost use mathlib.Core.Path.{_≡_};
-ghost use Prim.Native.Nat.{_+_, _*_, _/_, _≤_};
+ghost use Prim.Native.Nat.{_+_, _*_, _≤_};
 ghost use lib.ListN.{length, take};
 ghost use Rattle.whole.specs.TwosComplement.{signed};
-ghost use Rattle.samples.specs.Window.{channels, windowLength, numbersOf, firstMissing};
+ghost use Rattle.samples.specs.Window.{channels, windowLength, numbersOf, count, firstMissing};
 
 // How many frames a window has: one cycle.
 pub const FRAMES: usize = 16;
@@ -40,12 +40,22 @@ fn number(high: u8, low: u8) -> i16
     }
 }
 
-// The numbers of a window's bytes, at the front of an array that has room for any window.
-pub fn numbers(bytes: &[u8]) -> [i16; LONGEST]
-    requires { ⌜ length (now bytes) ≤ 2 * windowLength 6 ⌝ }
-    ensures { λ r. ⌜ take (length (now (bytes .entry)) / 2) r ≡ numbersOf (now (bytes .entry)) ⌝ }
+// How many numbers bytes hold: none where a byte is over, or where they are more than any window has.
+pub fn count(bytes: &[u8]) -> usize
+    ensures { λ r. ⌜ (r ≡ count (now (bytes .entry))) × (2 * r ≤ length (now (bytes .entry))) × (r ≤ windowLength 6) ⌝ }
 {
     let n = bytes.len() / 2;
+    if 2 * n != bytes.len() {
+        return 0;
+    }
+    if n <= LONGEST { n } else { 0 }
+}
+
+// These numbers, at the front of an array that has room for any window.
+pub fn numbers(bytes: &[u8]) -> [i16; LONGEST]
+    ensures { λ r. ⌜ take (count (now (bytes .entry))) r ≡ take (count (now (bytes .entry))) (numbersOf (now (bytes .entry))) ⌝ }
+{
+    let n = count(bytes);
     let mut samples = [0i16; LONGEST];
     for i in 0..n {
         samples[i] = number(bytes[2 * i], bytes[2 * i + 1]);

@@ -1,19 +1,23 @@
--- What a good record is: every rule of the table holds, so that every field lies in its range.
+-- What a good record is: every rule of the table holds, which is that every field lies in its range; and what the first fault of another is.
 use Prim.Native.Nat.{ℕ}
-use mathlib.Core.Path.{_≡_, refl}
+use mathlib.Core.Path.{_≡_, refl, sym, subst}
 use mathlib.Core.List.{List, [], _∷_}
 use mathlib.Core.Bool.{Bool, true, false, cond, and-eq-true-iff}
 use native.Mathlib.Omega.{arith}
-use borrow.Author.Tests.{leb-true}
+use borrow.Author.Tests.{leb-true, le-leb}
 use lib.Dec.{leb}
 use lib.IntN.{ℤ}
 use lib.Signed.{leZ}
-use Rattle.whole.proofs.Machine.{le-true, lt-true}
+use Rattle.whole.proofs.Rows.{_&_}
+use Rattle.whole.proofs.Machine.{le-true, lt-true, true-le, true-lt}
 use Rattle.settings.specs.declared.Rule.{Rule}
 use Rattle.settings.specs.declared.Checked.the-variants.{Good, Bad}
 use Rattle.settings.specs.Table.{table}
-use Rattle.settings.specs.Check.{within, withinSigned, holds, place, checkedBy, AllHold, checked}
+use Rattle.settings.specs.Check.{within, withinSigned, holds, place, checkedBy, AllHold, FirstFault, here, later, checked}
 use Rattle.settings.specs.Fields.{From, FromSigned, Ranges}
+
+same-place : (j k : ℕ) → Bad j ≡ Bad k → j ≡ k
+same-place j k e = cc
 
 bad-not-good : (k : ℕ) → Bad k ≡ Good → ⊥
 bad-not-good k e = let z : _≡_ {A = ℕ} 0 1 = cc in omega arith
@@ -73,3 +77,55 @@ ranges s g =
       negativePickup-range = from _ _ _ (d .1 .1 .0);
       spare-bytes = (zero _ (e .0), zero _ (e .1 .0), zero _ (e .1 .1 .0), zero _ (e .1 .1 .1 .0), zero _ (e .1 .1 .1 .1 .0), zero _ (e .1 .1 .1 .1 .1 .0));
     }
+
+-- ---- and the other way: a record in these ranges is good
+
+in-from : (low high v : ℕ) → From low high v → within low high v ≡ true
+in-from low high v f = and-eq-true-iff (leb low v) (leb v high) .1 (le-leb low v (f .least), le-leb v high (f .most))
+
+in-zero : (v : ℕ) → v ≡ 0 → within 0 0 v ≡ true
+in-zero v e = in-from 0 0 v (record { least = omega arith; most = omega arith })
+
+in-from-signed : (low high v : ℤ) → FromSigned low high v → withinSigned low high v ≡ true
+in-from-signed low high v f = and-eq-true-iff (leZ low v) (leZ v high) .1 (true-le (f .least), true-le (f .most))
+
+pub in-ranges-good : (s : List ℕ) → Ranges s → checked s ≡ Good
+unfolding table
+in-ranges-good s r =
+    let z = r .spare-bytes in
+    good table s (
+    in-from _ _ _ (r .ends-range)
+    & in-from _ _ _ (r .slope-range)
+    & in-from _ _ _ (r .pickup-range)
+    & in-from _ _ _ (r .replicaReal-range)
+    & in-from _ _ _ (r .replicaImaginary-range)
+    & in-from _ _ _ (r .reach-range)
+    & in-from _ _ _ (r .kReal-range)
+    & in-from-signed _ _ _ (r .kImaginary-range)
+    & in-from _ _ _ (r .angleReal-range)
+    & in-from _ _ _ (r .angleImaginary-range)
+    & in-from _ _ _ (r .angle-size)
+    & in-from-signed _ _ _ (r .forwardLimit-range)
+    & in-from-signed _ _ _ (r .reverseLimit-range)
+    & true-lt (r .limits-order)
+    & in-from _ _ _ (r .negativePickup-range)
+    & in-zero _ (z .0) & in-zero _ (z .1) & in-zero _ (z .2) & in-zero _ (z .3) & in-zero _ (z .4) & in-zero _ (z .5)
+    & tt
+    )
+
+-- ---- the first fault
+
+-- the check finds a fault at k exactly where a rule placed there is broken and every rule before it holds
+pub fault-found : (rs : List Rule) (s : List ℕ) (k : ℕ) → checkedBy rs s ≡ Bad k → FirstFault rs s k
+unfolding checkedBy
+fault-found [] s k g = absurd (bad-not-good k (sym g))
+fault-found (r ∷ rs) s k g = by-test (holds s r) refl (fault-found rs s k) g
+  where
+    by-test : (b : Bool) → holds s r ≡ b → (checkedBy rs s ≡ Bad k → FirstFault rs s k) → cond b (checkedBy rs s) (Bad (place r)) ≡ Bad k → FirstFault (r ∷ rs) s k
+    by-test true t rest g = later t (rest g)
+    by-test false t rest g = subst (FirstFault (r ∷ rs) s) (same-place (place r) k g) (here t)
+
+pub fault-is : (rs : List Rule) (s : List ℕ) (k : ℕ) → FirstFault rs s k → checkedBy rs s ≡ Bad k
+unfolding checkedBy
+fault-is rs s k (here t) = rw t
+fault-is rs s k (later t f) = rw t (fault-is _ s k f)

@@ -2,7 +2,7 @@
 use Prim.Native.Nat.{ℕ, _+_, _*_}
 use mathlib.Core.Path.{_≡_}
 use mathlib.Core.List.{List, [], _∷_}
-use mathlib.Core.Bool.{Bool, true, cond, _&&_}
+use mathlib.Core.Bool.{Bool, true, false, cond, _&&_}
 use lib.ListN.{getD}
 use lib.IntN.{ℤ}
 use lib.Signed.{leZ, ltZ}
@@ -46,6 +46,11 @@ checkedBy (r ∷ rs) s = cond (holds s r) (checkedBy rs s) (Bad (place r))
 abbrev pub AllHold : List Rule → List ℕ → Type 0
 AllHold [] s = Unit {0}
 AllHold (r ∷ rs) s = (holds s r ≡ true) × AllHold rs s
+
+-- The first rule of a list that a record breaks is one that is reported at k: "Checks go by offset."
+pub data FirstFault : List Rule → List ℕ → ℕ → Type 0 where
+  here : {r : Rule} {rs : List Rule} {s : List ℕ} → holds s r ≡ false → FirstFault (r ∷ rs) s (place r)
+  later : {r : Rule} {rs : List Rule} {s : List ℕ} {k : ℕ} → holds s r ≡ true → FirstFault rs s k → FirstFault (r ∷ rs) s k
 
 -- What the check of a record finds.
 abbrev pub checked : List ℕ → Checked

@@ -17,9 +17,9 @@ sample =
     0x00 ∷ 0x02 ∷ 0x00 ∷ 0x0F ∷ 0x00 ∷ 0x64 ∷ 0x00 ∷ 0x00 ∷ 0x03 ∷ 0xE8 ∷ 0x03 ∷ 0x52 ∷ 0x02 ∷ 0x9B ∷ 0x00 ∷ 0x00
     ∷ 0x00 ∷ 0x00 ∷ 0x03 ∷ 0xE8 ∷ 0xFE ∷ 0xD4 ∷ 0x01 ∷ 0x2C ∷ 0x00 ∷ 0x32 ∷ 0x00 ∷ 0x00 ∷ 0x00 ∷ 0x00 ∷ 0x00 ∷ 0x00 ∷ []
 
--- with another number at an offset
-abbrev pub changed : ℕ → ℕ → List ℕ
-changed at v = set (set sample at (v / 256)) (at + 1) (v % 256)
+-- a record with another number at an offset
+abbrev pub changed : List ℕ → ℕ → ℕ → List ℕ
+changed s at v = set (set s at (v / 256)) (at + 1) (v % 256)
 
 pub record Example : Type 0 where
   pub at : ℕ
@@ -48,7 +48,7 @@ examples =
 
 -- One claim over the table of examples.
 abbrev pub AsFound : Type 0
-AsFound = map (λ x. checked (changed (x .at) (x .number))) examples ≡ map (λ x. x .finding) examples
+AsFound = map (λ x. checked (changed sample (x .at) (x .number))) examples ≡ map (λ x. x .finding) examples
 
 -- each number of a list is at most the next
 abbrev pub ascending : ℕ → List ℕ → Bool

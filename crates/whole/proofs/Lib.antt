@@ -10,4 +10,6 @@ pub mod Rounding
 pub mod Remainder
 pub mod Roots
 pub mod Sums
+pub mod Bits
+pub mod Rows
 pub mod Examples

@@ -46,7 +46,7 @@ fn root_below(x: u64, width: u64) -> u64
     r
 }
 
-// The root rounded down: a magnitude in whole counts, from its square.
+// The root rounded down: a magnitude, from its square.
 // What the relay takes roots of is below 2^50, where twenty-five steps do; of a current below 1024 counts it is below 2^32, where sixteen do.
 pub fn floor_root(x: u64) -> u64
     ensures { λ r. ⌜ r ≡ floorRoot x ⌝ }

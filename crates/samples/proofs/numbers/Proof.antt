@@ -1,12 +1,11 @@
 -- `samples::numbers` meets its contract. The invariant: the numbers so far are the first of the bytes' numbers. Assumes nothing.
-use Prim.Native.Nat.{ℕ, _-_, _/_, _≤_, _<_}
+use Prim.Native.Nat.{ℕ, _-_, _≤_}
 use mathlib.Core.Path.{_≡_, sym, _∙_}
 use mathlib.Core.List.{List}
 use native.Mathlib.Omega.{arith}
 use borrow.Author.Needs.{needs}
 use denote.Ref.{now}
 use lib.ListN.{length, take}
-use lib.Seq.{take-all}
 use mir.Syntax.{w16}
 use mir.Val.{toZ, ofZ}
 use Rattle.samples.specs.Window.{windowLength, numbersOf}
@@ -19,6 +18,9 @@ Inv-loop bytes n samples₀ i₀ samples i = (i ≤ n) × (take i samples ≡ ta
 
 abbrev μ-loop : tie.MeasureT-loop
 μ-loop bytes n samples₀ i₀ samples i = n - i
+
+count-requires : tie.Need-count-requires Inv-loop μ-loop
+count-requires c κs = search needs
 
 loop-holds : tie.Need-loop-holds Inv-loop μ-loop
 loop-holds c = search needs
@@ -56,22 +58,21 @@ loop-less c = search needs
 loop-again : tie.Need-loop-again Inv-loop μ-loop
 loop-again c =
     let l = c .before .before .before .before in
-    let b : List ℕ = now (l .before .before .args .bytes) in
+    let few = l .before .count .ensures .1 in
+    let b : List ℕ = now (l .before .before .before .args .bytes) in
     let i : ℕ = l .loop .i in
-    let here : i < length b / 2 = omega arith in
     let stored : toZ w16 (ofZ w16 (c .number .result)) ≡ c .number .result = search needs in (
       search needs,
-      rw (stored ∙ c .number .ensures ∙ sym (number-at b i (omega arith)))
-          (filled (l .loop .samples) (numbersOf b) i (omega arith) (omega (arith, numbers-length b)) (l .loop .inv .1)),
+      rw (stored ∙ c .number .ensures ∙ sym (number-at b i (omega (arith, few))))
+          (filled (l .loop .samples) (numbersOf b) i (omega arith) (omega (arith, few, numbers-length b)) (l .loop .inv .1)),
       search needs,
     )
 
 returns : tie.Need-returns Inv-loop μ-loop
 returns c =
-    let b : List ℕ = now (c .before .before .before .args .bytes) in
-    let i : ℕ = c .before .loop .i in
-    let all : i ≡ length b / 2 = omega arith in
-    rw (← all) (c .before .loop .inv .1 ∙ take-all i (numbersOf b) (omega (arith, numbers-length b)))
+    let l = c .before in
+    let all : l .loop .i ≡ l .before .count .result = omega arith in
+    rw (← l .before .count .ensures .0, ← all) (l .loop .inv .1)
 
 pub numbers-spec : {M : Type 1} → statement M
 numbers-spec =
@@ -79,6 +80,7 @@ numbers-spec =
     (tie.spec
     Inv-loop
     μ-loop
+    count-requires
     loop-holds
     mul-number
     shared-slice-read-number

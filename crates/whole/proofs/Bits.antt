@@ -1,0 +1,77 @@
+-- The bits of a number made of yes and no are these; so they tell the facts behind them, and it is 0 exactly where none of these holds.
+use Prim.Native.Nat.{ℕ, zero, suc, _+_, _*_, _/_, _%_}
+use mathlib.Core.Path.{_≡_, refl, sym, ap, _∙_}
+use mathlib.Core.Logic.{_⊎_, inl, inr, ⊎-elim}
+use mathlib.Core.List.{List, [], _∷_}
+use mathlib.Core.Bool.{Bool, true, false, not, cond, false≢true}
+use native.Mathlib.Omega.{arith}
+use borrow.Author.Tests.{ne-eqb}
+use lib.ListN.{getD}
+use lib.Dec.{eqb}
+use Rattle.whole.specs.Bits.{bits, isSet, BitsTell, AnyOf}
+use Rattle.whole.specs.Exactly.{Exactly}
+
+-- no bit of 0 is set
+none-of-zero : (k : ℕ) → isSet k 0 ≡ false
+none-of-zero zero = refl
+none-of-zero (suc k) = none-of-zero k
+
+first : (b : Bool) (n : ℕ) → eqb ((cond b 1 0 + 2 * n) % 2) 1 ≡ b
+first true n = let e : (1 + 2 * n) % 2 ≡ 1 = omega arith in rw e
+first false n = let e : (0 + 2 * n) % 2 ≡ 0 = omega arith in rw e
+
+rest : (b : Bool) (n : ℕ) → (cond b 1 0 + 2 * n) / 2 ≡ n
+rest true n = omega arith
+rest false n = omega arith
+
+pub bit-is : (bs : List Bool) (k : ℕ) → isSet k (bits bs) ≡ getD bs k false
+bit-is [] k = none-of-zero k
+bit-is (b ∷ bs) zero = first b (bits bs)
+bit-is (b ∷ bs) (suc k) = ap (isSet k) (rest b (bits bs)) ∙ bit-is bs k
+
+-- each yes stands for its fact
+abbrev pub Each : List Bool → List (Type 0) → Type 0
+Each [] [] = Unit {0}
+Each [] (A ∷ As) = ⊥
+Each (b ∷ bs) [] = ⊥
+Each (b ∷ bs) (A ∷ As) = Exactly (b ≡ true) A × Each bs As
+
+-- bits that are these yes and no tell the facts
+tell-from : (n k : ℕ) (bs : List Bool) (As : List (Type 0)) → ((i : ℕ) → isSet (k + i) n ≡ getD bs i false) → Each bs As → BitsTell n k As
+tell-from n k [] [] at es = tt
+tell-from n k [] (A ∷ As) at es = absurd es
+tell-from n k (b ∷ bs) [] at es = tt
+tell-from n k (b ∷ bs) (A ∷ As) at es =
+    let same : k + 0 ≡ k = omega arith in
+    let here : isSet k n ≡ b = rw same at (at 0) in
+    ((λ t. es .0 .0 (sym here ∙ t), λ a. here ∙ es .0 .1 a), tell-from n (suc k) bs As next (es .1))
+  where
+    next : (i : ℕ) → isSet (suc k + i) n ≡ getD bs i false
+    next i = let e : suc k + i ≡ k + suc i = omega arith in ap (λ j. isSet j n) e ∙ at (suc i)
+
+pub bits-tell : (bs : List Bool) (As : List (Type 0)) → Each bs As → BitsTell (bits bs) 0 As
+bits-tell bs As es = tell-from (bits bs) 0 bs As (λ i. let e : 0 + i ≡ i = omega arith in rw e (bit-is bs i)) es
+
+-- twice a number is 0 exactly where the number is
+doubled : (n : ℕ) → eqb (0 + 2 * n) 0 ≡ eqb n 0
+doubled zero = refl
+doubled (suc n) = ne-eqb (0 + 2 * suc n) 0 (λ e. omega arith) ∙ sym (ne-eqb (suc n) 0 (λ e. omega arith))
+
+-- and they are not 0 exactly where one of the facts holds
+pub any-of : (bs : List Bool) (As : List (Type 0)) → Each bs As → Exactly (not (eqb (bits bs) 0) ≡ true) (AnyOf As)
+any-of [] [] es = (λ t. absurd (false≢true t), λ a. absurd a)
+any-of [] (A ∷ As) es = absurd es
+any-of (b ∷ bs) [] es = absurd es
+any-of (true ∷ bs) (A ∷ As) es =
+    let set : eqb (1 + 2 * bits bs) 0 ≡ false = ne-eqb (1 + 2 * bits bs) 0 (λ e. omega arith) in
+    (λ t. inl (es .0 .0 refl), λ a. ap not set)
+any-of (false ∷ bs) (A ∷ As) es =
+    let more = any-of bs As (es .1) in
+    let same = ap not (doubled (bits bs)) in
+    (λ t. inr (more .0 (sym same ∙ t)), ⊎-elim (λ a. absurd (false≢true (es .0 .1 a))) (λ some. same ∙ more .1 some))
+
+-- no bit of 0 tells anything
+pub none-told : (k : ℕ) (As : List (Type 0)) → BitsTell 0 k As → AnyOf As → ⊥
+none-told k [] h a = a
+none-told k (A ∷ As) h (inl a) = false≢true (sym (none-of-zero k) ∙ h .0 .1 a)
+none-told k (A ∷ As) h (inr more) = none-told (suc k) As (h .1) more
