@@ -1,16 +1,24 @@
 -- Each way out of the calls, on plain lists: what the tests on the way found decides the number given back and what is left.
-use Prim.Native.Nat.{ℕ, _≤_, _<_}
-use mathlib.Core.Path.{_≡_, sym, _∙_, ap}
+use Prim.Native.Nat.{ℕ, _*_, _≤_, _<_}
+use mathlib.Core.Path.{_≡_, refl, sym, _∙_, ap}
 use mathlib.Core.List.{List}
 use mathlib.Core.Bool.{Bool, true, false, not}
 use borrow.Author.Tests.{eq-eqb, ne-eqb, le-leb, lt-leb, not-true, not-false}
+use lib.IntN.{ℤ}
 use lib.ListN.{length}
 use Rattle.answers.specs.declared.Answer.{Answer}
 use Rattle.answers.specs.Answers.{givenBack, isDone}
+use Rattle.answers.specs.declared.Answer.the-variants.{NoSettings, NoRelay}
+use Rattle.answers.proofs.Numbers.{done-is}
 use Rattle.lent.specs.Lent.{over}
+use Rattle.samples.specs.Window.{windowLength}
+use Rattle.settings.specs.Fields.{Ranges, ends}
 use Rattle.entry.specs.Entry as entry
+use Rattle.entry.proofs.Done.{present-done}
+use Rattle.decision.specs.Decide as decision
 use Rattle.gorsepetal.specs.State.{stateLength, settingsOf}
-use Rattle.gorsepetal.specs.Calls.{verdict, standing, inForce, Proposed, Confirmed, ReadBack}
+use Rattle.gorsepetal.specs.Calls.{verdict, standing, inForce, windowBytes, Proposed, Confirmed, ReadBack, DecidedNumbers}
+use Rattle.gorsepetal.proofs.Good.{in-range}
 
 module _ {s e after : List ℕ} {n : ℕ} where
   pub propose-17 : (length s ≡ stateLength → ⊥) → n ≡ 17 → after ≡ s → Proposed s e n after
@@ -54,3 +62,37 @@ module _ {s e after : List ℕ} {n : ℕ} where
         let h : isDone v ≡ true = sym d ∙ not-false b y in
         let w = le-leb 32 (length e) r in
         record { given = rw (t, ← f, h, w) g; buffer = rw (t, ← f, h, w) k }
+
+-- a record that counts is in range
+module _ {r : List ℕ} {v : Answer} {b : Bool} where
+  pub counts : v ≡ entry.present (verdict r) NoSettings → b ≡ isDone v → not b ≡ false → Ranges r
+  counts f d y = in-range r (present-done (verdict r) NoSettings refl (sym f ∙ done-is v (sym d ∙ not-false b y)))
+
+module _ {s out after : List ℕ} {w : List ℤ} where
+  pub decide-17 : (length s ≡ stateLength → ⊥) → after ≡ out → DecidedNumbers s w out NoRelay after
+  decide-17 l k = let t = ne-eqb (length s) stateLength l in record { answer = rw t; buffer = rw t k }
+
+  module _ {a v : Answer} {b : Bool} (l : length s ≡ stateLength) (f : v ≡ inForce s) (d : b ≡ isDone v) where
+    pub decide-1 : not b ≡ true → a ≡ v → after ≡ out → DecidedNumbers s w out a after
+    decide-1 r g k =
+        let t = eq-eqb (length s) stateLength l in
+        let h : isDone v ≡ false = sym d ∙ not-true b r in
+        record { answer = rw (t, ← f, h) g; buffer = rw (t, ← f, h, h) k }
+
+    pub decide-on : not b ≡ false → decision.Decided (settingsOf s .force) w out a after → DecidedNumbers s w out a after
+    decide-on y p =
+        let t = eq-eqb (length s) stateLength l in
+        let h : isDone v ≡ true = sym d ∙ not-false b y in
+        record { answer = rw (t, ← f, h) (p .answer); buffer = rw (t, ← f, h, ← p .answer) (p .buffer) }
+
+-- how many bytes a window has
+module _ (s : List ℕ) where
+  pub bytes-17 : (length s ≡ stateLength → ⊥) → 0 ≡ windowBytes s
+  bytes-17 l = rw (ne-eqb (length s) stateLength l)
+
+  module _ {v : Answer} {b : Bool} (l : length s ≡ stateLength) (f : v ≡ inForce s) (d : b ≡ isDone v) where
+    pub bytes-1 : not b ≡ true → 0 ≡ windowBytes s
+    bytes-1 r = let h : isDone v ≡ false = sym d ∙ not-true b r in rw (eq-eqb (length s) stateLength l, ← f, h)
+
+    pub bytes-0 : {n : ℕ} → not b ≡ false → n ≡ windowLength (ends (settingsOf s .force)) → 2 * n ≡ windowBytes s
+    bytes-0 y e = let h : isDone v ≡ true = sym d ∙ not-false b y in rw (eq-eqb (length s) stateLength l, ← f, h, e)

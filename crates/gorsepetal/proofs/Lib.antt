@@ -1,2 +1,4 @@
 -- What belongs to no one function.
+pub mod Good
 pub mod Cases
+pub mod Numbers

@@ -1,8 +1,9 @@
 -- Document 01, "Numbers given back": what each call answers and leaves, for every input, good or bad.
-use Prim.Native.Nat.{ℕ}
+use Prim.Native.Nat.{ℕ, _*_}
 use mathlib.Core.Path.{_≡_}
 use mathlib.Core.List.{List}
 use mathlib.Core.Bool.{Bool, cond}
+use lib.IntN.{ℤ}
 use lib.ListN.{length}
 use lib.Dec.{eqb, leb}
 use Rattle.answers.specs.declared.Answer.{Answer}
@@ -11,7 +12,10 @@ use Rattle.answers.specs.Answers.{givenBack, ifDone}
 use Rattle.lent.specs.Lent.{over}
 use Rattle.settings.specs.declared.Checked.{Checked}
 use Rattle.settings.specs.declared.Checked.the-variants.{Good, Bad}
+use Rattle.samples.specs.Window.{windowLength, numbersOf}
 use Rattle.settings.specs.Check.{checked}
+use Rattle.settings.specs.Fields.{ends}
+use Rattle.decision.specs.Decide.{windowAnswer, written}
 use Rattle.entry.specs.Pair.{recordLength}
 use Rattle.entry.specs.Entry as entry
 use Rattle.gorsepetal.specs.State.{stateLength, settingsOf, withSettings}
@@ -29,7 +33,7 @@ ofCheck (Bad k) = OutOfRange k
 abbrev pub verdict : List ℕ → Answer
 verdict r = ofCheck (checked r)
 
--- A good record is one that propose accepts.
+-- A good record: of 32 bytes, one that propose accepts.
 abbrev pub Accepted : List ℕ → Type 0
 Accepted r = verdict r ≡ Done
 
@@ -54,14 +58,40 @@ confirmState s e = cond (isRelay s) (withSettings s (entry.confirmed (standing s
 abbrev pub inForce : List ℕ → Answer
 inForce s = entry.present (verdict (settingsOf s .force)) NoSettings
 
+-- Refusals 17 and 1, which stand first in read-back and in decide.
+abbrev pub ready : List ℕ → Answer
+ready s = cond (isRelay s) (inForce s) NoRelay
+
 -- "Read-back: 1, 3." Refusal 3: room below 32 bytes.
 abbrev pub readBackAnswer : List ℕ → List ℕ → Answer
-readBackAnswer s out =
-    cond (isRelay s) (ifDone (inForce s) (cond (leb recordLength (length out)) Done NoRoom) (inForce s)) NoRelay
+readBackAnswer s out = ifDone (ready s) (cond (leb recordLength (length out)) Done NoRoom) (ready s)
 
 -- "Read-back writes the 32 bytes of the record in force" at the front of the lent buffer; "later bytes stay".
 abbrev pub readBackOut : List ℕ → List ℕ → List ℕ
 readBackOut s out = ifDone (readBackAnswer s out) (over out 0 (settingsOf s .force)) out
+
+-- How many numbers a window has by the record in force.
+abbrev pub lengthInForce : List ℕ → ℕ
+lengthInForce s = windowLength (ends (settingsOf s .force))
+
+-- And how many bytes; none where no record is in force.
+abbrev pub windowBytes : List ℕ → ℕ
+windowBytes s = ifDone (ready s) (2 * lengthInForce s) 0
+
+-- Whether numbers, or the bytes of numbers, are as many: "an odd byte over makes it another length".
+abbrev pub fitsNumbers : List ℕ → List ℤ → Bool
+fitsNumbers s w = eqb (length w) (lengthInForce s)
+
+abbrev pub fitsBytes : List ℕ → List ℕ → Bool
+fitsBytes s b = eqb (length b) (2 * lengthInForce s)
+
+-- "Decide checks 1, 2, 3, 4."
+abbrev pub decideAnswer : List ℕ → Bool → List ℤ → List ℕ → Answer
+decideAnswer s fits w out = ifDone (ready s) (windowAnswer fits w out) (ready s)
+
+-- The decision by the record in force, at the front of the lent buffer.
+abbrev pub decideOut : List ℕ → Bool → List ℤ → List ℕ → List ℕ
+decideOut s fits w out = written (decideAnswer s fits w out) (settingsOf s .force) w out
 
 -- What each call promises of the number n given back and of what it leaves.
 pub record Proposed (s e : List ℕ) (n : ℕ) (after : List ℕ) : Type 0 where
@@ -76,3 +106,12 @@ pub record Confirmed (s e : List ℕ) (n : ℕ) (after : List ℕ) : Type 0 wher
 pub record ReadBack (s out : List ℕ) (n : ℕ) (after : List ℕ) : Type 0 where
   pub given : n ≡ givenBack (readBackAnswer s out)
   pub buffer : after ≡ readBackOut s out
+
+-- Nor does decide. On a window of numbers, and on one of big-endian bytes, as it comes from C.
+pub record DecidedNumbers (s : List ℕ) (w : List ℤ) (out : List ℕ) (a : Answer) (after : List ℕ) : Type 0 where
+  pub answer : a ≡ decideAnswer s (fitsNumbers s w) w out
+  pub buffer : after ≡ decideOut s (fitsNumbers s w) w out
+
+pub record Decided (s b out : List ℕ) (n : ℕ) (after : List ℕ) : Type 0 where
+  pub given : n ≡ givenBack (decideAnswer s (fitsBytes s b) (numbersOf b) out)
+  pub buffer : after ≡ decideOut s (fitsBytes s b) (numbersOf b) out

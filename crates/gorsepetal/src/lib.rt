@@ -1,8 +1,12 @@
 // What C calls. The relay's state is lent, and all zero bytes are a fresh relay: the main pair of records, the one in force and then
 // the pending one.
 ghost use mathlib.Core.Path.{_≡_};
+ghost use Prim.Native.Nat.{_*_, _≤_};
+ghost use lib.ListN.{length};
+ghost use Rattle.samples.specs.Window.{windowLength};
 ghost use Rattle.entry.specs.Entry.{present};
-ghost use Rattle.gorsepetal.specs.Calls.{verdict, Proposed, Confirmed, ReadBack};
+ghost use Rattle.gorsepetal.specs.State.{stateLength};
+ghost use Rattle.gorsepetal.specs.Calls.{verdict, inForce, windowBytes, Proposed, Confirmed, ReadBack, DecidedNumbers, Decided};
 use answers::Answer;
 use entry::RECORD_LENGTH;
 use settings::Checked;
@@ -37,6 +41,14 @@ fn present(r: &[u8], absent: Answer) -> Answer
     }
 }
 
+// Whether a record is in force in a relay: done, or the refusal where none is.
+fn in_force(state: &[u8]) -> Answer
+    requires { ⌜ length (now state) ≡ stateLength ⌝ }
+    ensures { λ a. ⌜ a ≡ inForce (now (state .entry)) ⌝ }
+{
+    present(&state[MAIN..PENDING], Answer::NoSettings)
+}
+
 // A first entry: it becomes pending if it is good.
 #[no_mangle]
 pub extern "C" fn gorsepetal_propose(state: &mut [u8], entry: &[u8]) -> u64
@@ -68,7 +80,7 @@ pub extern "C" fn gorsepetal_read_back(state: &[u8], out: &mut [u8]) -> u64
     if state.len() != STATE_LENGTH {
         return answers::given_back(Answer::NoRelay);
     }
-    let in_force = present(&state[MAIN..PENDING], Answer::NoSettings);
+    let in_force = in_force(state);
     if !answers::is_done(in_force) {
         return answers::given_back(in_force);
     }
@@ -77,4 +89,42 @@ pub extern "C" fn gorsepetal_read_back(state: &[u8], out: &mut [u8]) -> u64
     }
     lent::put(out, 0, &state[MAIN..PENDING]);
     answers::given_back(Answer::Done)
+}
+
+// How many bytes a window has by the record in force; 0 where none is.
+pub fn window_bytes(state: &[u8]) -> usize
+    ensures { λ r. ⌜ (r ≡ windowBytes (now (state .entry))) × (r ≤ 2 * windowLength 6) ⌝ }
+{
+    if state.len() != STATE_LENGTH {
+        return 0;
+    }
+    let in_force = in_force(state);
+    if !answers::is_done(in_force) {
+        return 0;
+    }
+    2 * decision::window_length(&state[MAIN..PENDING])
+}
+
+// The decision on a window of numbers, at the front of a lent buffer.
+pub fn decide(state: &[u8], window: &[i16], out: &mut [u8]) -> Answer
+    ensures { λ a. ⌜ DecidedNumbers (now (state .entry)) (now (window .entry)) (now (out .entry)) a (now (out .exit)) ⌝ }
+{
+    if state.len() != STATE_LENGTH {
+        return Answer::NoRelay;
+    }
+    let in_force = in_force(state);
+    if !answers::is_done(in_force) {
+        return in_force;
+    }
+    decision::decide(&state[MAIN..PENDING], window, out)
+}
+
+// The same on a window of big-endian bytes.
+#[no_mangle]
+pub extern "C" fn gorsepetal_decide(state: &[u8], samples: &[u8], out: &mut [u8]) -> u64
+    ensures { λ r. ⌜ Decided (now (state .entry)) (now (samples .entry)) (now (out .entry)) r (now (out .exit)) ⌝ }
+{
+    let n = samples::count(samples);
+    let numbers = samples::numbers(samples);
+    answers::given_back(decide(state, &numbers[0..n], out))
 }

@@ -10,17 +10,8 @@ given-back-requires c κs = search needs
 returns : tie.Need-returns
 returns c = search (needs, read-17)
 
-sub-present : tie.Need-sub-present
-sub-present c = search needs
-
-part-present-start : tie.Need-part-present-start
-part-present-start c = search needs
-
-part-present-end : tie.Need-part-present-end
-part-present-end c = search needs
-
-present-requires : tie.Need-present-requires
-present-requires c κs = search needs
+in-force-requires : tie.Need-in-force-requires
+in-force-requires c κs = search needs
 
 is-done-requires : tie.Need-is-done-requires
 is-done-requires c κs = search needs
@@ -64,10 +55,7 @@ gorsepetal-read-back-spec =
     (tie.spec
     given-back-requires
     returns
-    sub-present
-    part-present-start
-    part-present-end
-    present-requires
+    in-force-requires
     is-done-requires
     given-back-requires-2
     returns-2

@@ -1,0 +1,31 @@
+-- `decision::loops` meets its contract: the reach in force is in range. Assumes nothing.
+use mathlib.Core.Path.{ap₂, _∙_}
+use borrow.Author.Needs.{needs}
+use Rattle.whole.specs.Range.{Within}
+use Rattle.whole.proofs.Machine.{back}
+use Rattle.whole.proofs.Size.{along}
+use Rattle.distance.specs.Mho.{loopBits}
+use Rattle.decision.proofs.loops.Statement.{statement}
+use Rattle.decision.proofs.loops.Tie as tie
+
+reach-requires : tie.Need-reach-requires
+reach-requires c κs = search needs
+
+loops-requires : tie.Need-loops-requires
+loops-requires c κs = search needs
+
+bits-at-requires : tie.Need-bits-at-requires
+bits-at-requires c κs =
+    let k = c .before in
+    let range = k .before .before .pre .0 in
+    let at-most : Within 2000 (k .reach .result) = along (k .reach .ensures) (record { size = range .reach-range .most }) in
+    simp (back (k .reach .result) (k .reach .ok)) (range, at-most, c .loops .ensures .1)
+
+returns : tie.Need-returns
+returns c =
+    let l = c .before in
+    let k = l .before in
+    (simp (back (k .reach .result) (k .reach .ok)) at (c .bits-at .ensures)) ∙ ap₂ (loopBits _) (k .reach .ensures) (l .loops .ensures .0)
+
+pub loops-spec : {M : Type 1} → statement M
+loops-spec = tie.close (tie.spec reach-requires loops-requires bits-at-requires returns)

@@ -1,0 +1,87 @@
+-- Document 01, "Decision record": what is found in a window, the trip rule, and the 32 bytes. In these definitions s is a settings record
+-- and w a window's numbers.
+use Prim.Native.Nat.{ℕ, _/_, _%_}
+use mathlib.Core.List.{List, [], _∷_, _++_}
+use mathlib.Core.Bool.{Bool, true, false, not, cond, _&&_, _||_}
+use lib.Dec.{eqb}
+use lib.IntN.{ℤ, pos}
+use Rattle.plane.specs.declared.Phases.{Phases}
+use Rattle.phasors.specs.Rate.{sixteen}
+use Rattle.phasors.specs.Grid.{voltagesOf, localCurrents, current}
+use Rattle.settings.specs.Fields.{ends, slope, pickup, reach}
+use Rattle.distance.specs.declared.direction.Direction.{Direction}
+use Rattle.distance.specs.declared.direction.Direction.the-variants.{None, Forward, Reverse}
+use Rattle.distance.specs.Sequence.{negative}
+use Rattle.distance.specs.Line.{replica, compensation}
+use Rattle.distance.specs.Direction.{directionOf, directionNumber}
+use Rattle.distance.specs.Mho.{loopsOf, loopBits}
+use Rattle.differential.specs.declared.Comparisons.{Comparisons}
+use Rattle.differential.specs.Differential.{comparisons, magnitude, operatingBits}
+use Rattle.decision.specs.declared.Findings.{Findings}
+
+-- ---- what is found in a window
+
+-- Va, Vb, Vc
+abbrev pub voltages : List ℕ → List ℤ → Phases
+voltages s w = voltagesOf sixteen w (ends s)
+
+-- Ia, Ib, Ic: "Only end 1 is used"
+abbrev pub currents : List ℕ → List ℤ → Phases
+currents s w = localCurrents sixteen w (ends s)
+
+-- s and U of each phase, over all ends
+abbrev pub line : List ℕ → List ℤ → Comparisons
+line s w = comparisons (current sixteen w (ends s)) (ends s)
+
+-- the loops that assert, from the voltages and the currents of end 1, at the reach r
+abbrev pub loopsAt : List ℕ → Phases → Phases → ℕ
+loopsAt s v i = loopBits (replica s) (pos (reach s)) (loopsOf (compensation s) v i)
+
+-- the direction, from 3V2 and 3I2
+abbrev pub directionAt : List ℕ → Phases → Phases → Direction
+directionAt s v i = directionOf s (negative v) (negative i)
+
+unfoldable pub findings : List ℕ → List ℤ → Findings
+findings s w =
+    record {
+      phases = operatingBits (slope s) (pickup s) (line s w);
+      loops = loopsAt s (voltages s w) (currents s w);
+      direction = directionAt s (voltages s w) (currents s w);
+      line = line s w;
+    }
+
+-- ---- the trip rule
+
+-- a byte of bits has one set
+abbrev pub any : ℕ → Bool
+any n = not (eqb n 0)
+
+abbrev pub isForward : Direction → Bool
+isForward None = false
+isForward Forward = true
+isForward Reverse = false
+
+-- "1 if any phase operates, or direction is forward and any loop asserts; else 0"
+abbrev pub trip : ℕ → ℕ → Direction → ℕ
+trip phases loops direction = cond (any phases || (isForward direction && any loops)) 1 0
+
+-- ---- the bytes
+
+-- "32 bytes"
+abbrev pub decisionLength : ℕ
+decisionLength = 32
+
+-- "32-bit big-endian": the four bytes of a number below 2^32
+abbrev pub word : ℕ → List ℕ
+word n = n / 16777216 ∷ n / 65536 % 256 ∷ n / 256 % 256 ∷ n % 256 ∷ []
+
+-- bytes 0 to 3, "4 to 7 zero", "U of a, b, c", and "floor of the root of 4096 s, for a, b, c"
+abbrev pub decisionBytes : Findings → List ℕ
+decisionBytes f =
+    trip (f .phases) (f .loops) (f .direction) ∷ f .phases ∷ f .loops ∷ directionNumber (f .direction) ∷ 0 ∷ 0 ∷ 0 ∷ 0
+    ∷ word (f .line .a .restraint) ++ word (f .line .b .restraint) ++ word (f .line .c .restraint)
+    ++ word (magnitude (f .line .a)) ++ word (magnitude (f .line .b)) ++ word (magnitude (f .line .c))
+
+-- the decision on a window
+abbrev pub decision : List ℕ → List ℤ → List ℕ
+decision s w = decisionBytes (findings s w)

@@ -1,0 +1,194 @@
+// The decision on a window: what is found in it by the settings record in force, the trip rule, and the 32 bytes that tell it.
+ghost use mathlib.Core.Path.{_≡_};
+ghost use Prim.Native.Nat.{_+_, _<_, _≤_, _^_};
+ghost use mathlib.Core.List.{_∷_};
+ghost use lib.ListN.{length, replicate};
+ghost use Rattle.lent.specs.Lent.{over};
+ghost use Rattle.plane.specs.Plane.{AllInside, phasorSize};
+ghost use Rattle.samples.specs.Window.{windowLength, firstMissing};
+ghost use Rattle.settings.specs.Fields.{Ranges, ends};
+ghost use Rattle.differential.specs.Differential.{AllSized};
+ghost use Rattle.decision.specs.Decide.{Decided};
+ghost use Rattle.decision.specs.Decision.{loopsAt, directionAt, findings, trip, word, decisionBytes, decision};
+use answers::Answer;
+use differential::Comparisons;
+use distance::direction::Direction;
+use plane::Phases;
+use samples::Found;
+
+// How many bytes a decision has.
+pub const LENGTH: usize = 32;
+
+// Byte 0 of it.
+const TRIP: u8 = 1;
+
+const NO_TRIP: u8 = 0;
+
+// What is found in a window.
+pub struct Findings {
+    // the phases that operate: a 1, b 2, c 4
+    pub phases: u8,
+    // the loops that assert: AG 1, BG 2, CG 4, AB 8, BC 16, CA 32
+    pub loops: u8,
+    // which way the fault lies
+    pub direction: Direction,
+    // what is compared in each phase
+    pub line: Comparisons,
+}
+
+// How many numbers a window has, by a good settings record.
+pub fn window_length(s: &[u8]) -> usize
+    requires { ⌜ Ranges (now s) ⌝ }
+    ensures { λ r. ⌜ (r ≡ windowLength (ends (now (s .entry)))) × (r ≤ windowLength 6) ⌝ }
+{
+    samples::FRAMES * samples::channels(settings::fields::ends(s) as usize)
+}
+
+// The loops that assert at the reach in force, from the voltages and the currents of end 1.
+fn loops(s: &[u8], v: Phases, i: Phases) -> u8
+    requires { ⌜ Ranges (now s) × AllInside phasorSize v × AllInside phasorSize i ⌝ }
+    ensures { λ r. ⌜ r ≡ loopsAt (now (s .entry)) v i ⌝ }
+{
+    let reach = settings::fields::reach(s);
+    distance::mho::bits_at(s, reach, distance::mho::loops(s, v, i))
+}
+
+// The direction of a fault, from the same.
+fn direction(s: &[u8], v: Phases, i: Phases) -> Direction
+    requires { ⌜ Ranges (now s) × AllInside phasorSize v × AllInside phasorSize i ⌝ }
+    ensures { λ r. ⌜ r ≡ directionAt (now (s .entry)) v i ⌝ }
+{
+    let v2 = distance::sequence::negative(v);
+    let i2 = distance::sequence::negative(i);
+    distance::direction::of_fault(s, v2, i2)
+}
+
+// What is found in a window of the right length, by a good settings record.
+fn found(s: &[u8], window: &[i16]) -> Findings
+    requires { ⌜ Ranges (now s) × (length (now window) ≡ windowLength (ends (now s))) ⌝ }
+    ensures { λ r. ⌜ (r ≡ findings (now (s .entry)) (now (window .entry))) × AllSized (r .line) ⌝ }
+{
+    let ends = settings::fields::ends(s) as usize;
+    let v = phasors::voltages(window, ends);
+    let grid = phasors::currents(window, ends);
+    let i = phasors::local(grid);
+    let line = differential::of_line(grid, ends);
+    let phases = differential::bits(s, line);
+    let loops = loops(s, v, i);
+    let direction = direction(s, v, i);
+    Findings {
+        phases,
+        loops,
+        direction,
+        line,
+    }
+}
+
+// The trip rule.
+fn trip(phases: u8, loops: u8, direction: Direction) -> u8
+    ensures { λ r. ⌜ r ≡ trip phases loops direction ⌝ }
+{
+    if phases != 0 {
+        return TRIP;
+    }
+    match direction {
+        Direction::Forward => if loops != 0 { TRIP } else { NO_TRIP },
+        Direction::None => NO_TRIP,
+        Direction::Reverse => NO_TRIP,
+    }
+}
+
+// A number of 32 bits in four bytes, the highest first.
+fn word(n: u64) -> [u8; 4]
+    requires { ⌜ n < 2 ^ 32 ⌝ }
+    ensures { λ r. ⌜ r ≡ word n ⌝ }
+{
+    [
+        (n / 16777216) as u8,
+        (n / 65536 % 256) as u8,
+        (n / 256 % 256) as u8,
+        (n % 256) as u8,
+    ]
+}
+
+// A decision record with its first four bytes, and zeros.
+fn front(trip: u8, phases: u8, loops: u8, direction: u8) -> [u8; LENGTH]
+    ensures { λ r. ⌜ r ≡ trip ∷ phases ∷ loops ∷ direction ∷ replicate 28 0 ⌝ }
+{
+    let mut r = [0u8; LENGTH];
+    r[0] = trip;
+    r[1] = phases;
+    r[2] = loops;
+    r[3] = direction;
+    r
+}
+
+// A decision record with such a number at an offset.
+fn with_word(r: [u8; LENGTH], at: usize, n: u64) -> [u8; LENGTH]
+    requires { ⌜ (at + 4 ≤ 32) × (n < 2 ^ 32) ⌝ }
+    ensures { λ x. ⌜ x ≡ over r at (word n) ⌝ }
+{
+    let mut x = r;
+    let four = word(n);
+    lent::put(&mut x, at, &four);
+    x
+}
+
+// The decision record of what was found.
+fn bytes(f: Findings) -> [u8; LENGTH]
+    requires { ⌜ AllSized (f .line) ⌝ }
+    ensures { λ r. ⌜ r ≡ decisionBytes f ⌝ }
+{
+    let direction = f.direction;
+    let line = f.line;
+    let r = front(
+        trip(f.phases, f.loops, direction),
+        f.phases,
+        f.loops,
+        distance::direction::number(direction),
+    );
+    let r = with_word(r, 8, line.a.restraint);
+    let r = with_word(r, 12, line.b.restraint);
+    let r = with_word(r, 16, line.c.restraint);
+    let r = with_word(r, 20, differential::magnitude(line.a));
+    let r = with_word(r, 24, differential::magnitude(line.b));
+    with_word(r, 28, differential::magnitude(line.c))
+}
+
+// The decision on a window of the right length, by a good settings record.
+fn decision(s: &[u8], window: &[i16]) -> [u8; LENGTH]
+    requires { ⌜ Ranges (now s) × (length (now window) ≡ windowLength (ends (now s))) ⌝ }
+    ensures { λ r. ⌜ r ≡ decision (now (s .entry)) (now (window .entry)) ⌝ }
+{
+    bytes(found(s, window))
+}
+
+// The first missing number of a window of the right length.
+fn first_missing(s: &[u8], window: &[i16]) -> Found
+    requires { ⌜ Ranges (now s) × (length (now window) ≡ windowLength (ends (now s))) ⌝ }
+    ensures { λ r. ⌜ r ≡ firstMissing (now (window .entry)) ⌝ }
+{
+    let channels = samples::channels(settings::fields::ends(s) as usize);
+    samples::first_missing(window, samples::FRAMES, channels)
+}
+
+// The decision on a window, at the front of a lent buffer, by a good settings record.
+pub fn decide(s: &[u8], window: &[i16], out: &mut [u8]) -> Answer
+    requires { ⌜ Ranges (now s) ⌝ }
+    ensures { λ a. ⌜ Decided (now (s .entry)) (now (window .entry)) (now (out .entry)) a (now (out .exit)) ⌝ }
+{
+    if window.len() != window_length(s) {
+        return Answer::WindowLength;
+    }
+    if out.len() < LENGTH {
+        return Answer::NoRoom;
+    }
+    match first_missing(s, window) {
+        Found::At(k) => Answer::MissingSample(k as u16),
+        Found::Nothing => {
+            let record = decision(s, window);
+            lent::put(out, 0, &record);
+            Answer::Done
+        }
+    }
+}
