@@ -15,7 +15,7 @@ use Rattle.entry.specs.Log.{Entry, propose, confirm, Log, _▷_, Leads, from-fr
 use Rattle.entry.proofs.History.{in-force-said-twice}
 use Rattle.gorsepetal.specs.State.{stateLength, settingsOf}
 use Rattle.gorsepetal.specs.Calls.{verdict, Accepted}
-use Rattle.claims.specs.Demand1.{Call, proposing, confirming, reading-back, Reached, freshRelay, next, afterCalls, Demand1, History, fresh, proposed, confirmed, other, OverHistories}
+use Rattle.claims.specs.Demand1.{Call, proposing, confirming, reading-back, deciding, Reached, freshRelay, next, afterCalls, Demand1, History, fresh, proposed, confirmed, other, OverHistories}
 use Rattle.claims.proofs.Relay.{Left, propose-left, confirm-left}
 
 -- zero bytes are no good record: the table refuses them at 0
@@ -52,11 +52,14 @@ history-next : (r : Reached) (c : Call) → History (r .log) (r .state) → Hist
 history-next r (proposing e) h = proposed h (record { given = refl; state = refl })
 history-next r (confirming e) h = confirmed h (record { given = refl; state = refl })
 history-next r (reading-back out) h = h
+history-next r (deciding samples out) h = h
 
 history-after : (r : Reached) (cs : List Call) → History (r .log) (r .state) → History (afterCalls r cs .log) (afterCalls r cs .state)
 history-after r [] h = h
 history-after r (c ∷ cs) h = history-after (next r c) cs (history-next r c h)
 
+pub history-of : (cs : List Call) → History (afterCalls freshRelay cs .log) (afterCalls freshRelay cs .state)
+history-of cs = history-after freshRelay cs fresh
+
 pub demand-1 : Demand1
-demand-1 cs g =
-    let r = afterCalls freshRelay cs in over-histories (r .log) (r .state) (history-after freshRelay cs fresh) g
+demand-1 cs g = let r = afterCalls freshRelay cs in over-histories (r .log) (r .state) (history-of cs) g

@@ -1,5 +1,11 @@
 -- The proofs of the statements in specs/.
 pub mod One
 pub mod Relay
+pub mod Table
 pub mod Demand1
 pub mod Settings
+pub mod Decided
+pub mod Demand2
+pub mod Demand3
+pub mod WhichRule
+pub mod HandChecks

@@ -2,39 +2,42 @@
 use Prim.Native.Nat.{ℕ, _+_, _*_}
 use mathlib.Core.Path.{_≡_, refl, sym, ap, _∙_}
 use mathlib.Core.List.{List, _++_}
-use mathlib.Core.Bool.{Bool, true, false, false≢true, cond}
+use mathlib.Core.Bool.{Bool, true, false, cond}
 use native.Mathlib.Omega.{arith}
 use borrow.Author.Tests.{eq-eqb, ne-eqb, le-leb, eqb-true}
 use lib.ListN.{length, take, drop}
 use lib.Seq.{take-at, drop-at}
-use lib.Dec.{eqb}
-use Rattle.answers.specs.declared.Answer.the-variants.{Done, EntryLength, NothingPending, NoRelay}
+use lib.Dec.{eqb, leb}
+use Rattle.answers.specs.declared.Answer.the-variants.{Done, NoSettings, WindowLength, NoRoom, EntryLength, NothingPending, NoRelay}
 use Rattle.answers.specs.Answers.{givenBack, isDone, ifDone}
 use Rattle.answers.proofs.Numbers.{zero-is, not-zero-refused}
 use Rattle.lent.specs.declared.Compared.{Compared}
 use Rattle.lent.specs.declared.Compared.the-variants.{Same, Differ}
 use Rattle.lent.specs.Lent.{compared}
 use Rattle.lent.proofs.Differences.{compared-first, compared-same, compared-self}
-use Rattle.settings.specs.declared.Checked.{Checked}
-use Rattle.settings.specs.declared.Checked.the-variants.{Good, Bad}
-use Rattle.settings.specs.Check.{checked}
-use Rattle.settings.proofs.Good.{ranges}
+use Rattle.samples.specs.declared.Found.{Found}
+use Rattle.samples.specs.declared.Found.the-variants.{Nothing, At}
+use Rattle.samples.specs.Window.{channels, numbersOf, firstMissing}
+use Rattle.samples.proofs.Missing.{first-in-order}
+use Rattle.settings.specs.Fields.{ends}
+use Rattle.settings.proofs.Good.{in-ranges-good}
 use Rattle.entry.specs.Pair.{nothing}
 use Rattle.entry.specs.Entry.{ofCompare, proposeAnswer, confirmAnswer}
 use Rattle.entry.proofs.Done.{confirm-done, present-done}
+use Rattle.decision.specs.Decide.{ofFound}
 use Rattle.gorsepetal.specs.State.{stateLength, settingsOf}
-use Rattle.gorsepetal.specs.Calls.{isRelay, ofCheck, verdict, Accepted, standing, Confirmed, readBackAnswer}
-use Rattle.claims.specs.Settings.{AcceptedInRange, GoodComesIntoForce, ConfirmedReadsBack, RefusedProposal, RefusedConfirmation, NoThirdEntry, DiffersAtFirst, RefusedReadBack, NoRelayNoChange}
+use Rattle.gorsepetal.specs.Calls.{isRelay, ofCheck, verdict, Accepted, standing, Confirmed, readBackAnswer, fitsBytes, decideAnswer}
+use Rattle.gorsepetal.proofs.Good.{in-range}
+use Rattle.claims.specs.Settings.{AcceptedExactly, FreshHasNothing, MissingInOrder, GoodComesIntoForce, ConfirmedReadsBack, RefusedProposal, RefusedConfirmation, NoThirdEntry, DiffersAtFirst, RefusedReadBack, RefusedDecide, NoRelayNoChange}
 use Rattle.claims.proofs.Relay.{sized, propose-left, confirm-left}
 use Rattle.claims.proofs.Demand1.{blank}
 
--- the verdict is done only where the check finds a good record
-found-good : (f : Checked) → ofCheck f ≡ Done → f ≡ Good
-found-good Good t = refl
-found-good (Bad k) t = absurd (false≢true (ap isDone t))
+pub accepted-exactly : AcceptedExactly
+accepted-exactly r = (in-range r, λ h. ap ofCheck (in-ranges-good r h))
 
-pub accepted-in-range : AcceptedInRange
-accepted-in-range r a = ranges r (found-good (checked r) a)
+pub fresh-has-nothing : FreshHasNothing
+fresh-has-nothing b out e n after =
+    (λ c. c .given ∙ rw blank, λ c. c .given ∙ rw blank, λ c l. c .given ∙ rw (eq-eqb (length e) 32 l, blank))
 
 pub refused-proposal : RefusedProposal
 refused-proposal s e n s₁ l c refused =
@@ -83,13 +86,40 @@ differs-at-first s e k s₁ c =
     let first = compared-first k p e (answer-8 (isRelay s) (eqb (length e) 32) (isDone (verdict p)) (compared p e) k (c .given)) in
     (first .before, first .there)
 
+-- an answer of 4 comes from the search alone, with its place
+answer-4 :
+    (a y f m : Bool) (x : Found) (k : ℕ) →
+    256 * k + 4 ≡ givenBack (ifDone (cond a (cond y Done NoSettings) NoRelay) (cond f (cond m (ofFound x) NoRoom) WindowLength) (cond a (cond y Done NoSettings) NoRelay))
+    → x ≡ At k
+answer-4 false y f m x k z = absurd (omega arith)
+answer-4 true false f m x k z = absurd (omega arith)
+answer-4 true true false m x k z = absurd (omega arith)
+answer-4 true true true false x k z = absurd (omega arith)
+answer-4 true true true true Nothing k z = absurd (omega arith)
+answer-4 true true true true (At i) k z = ap At (omega arith)
+
+pub missing-in-order : MissingInOrder
+missing-in-order s b out f c after l d =
+    let r = settingsOf s .force in
+    let m = channels (ends r) in
+    first-in-order m (numbersOf b) f c l
+    (answer-4 (isRelay s) (isDone (verdict r)) (fitsBytes s b) (leb 32 (length out)) (firstMissing (numbersOf b)) (f * m + c) (d .given))
+
 pub no-relay-no-change : NoRelayNoChange
-no-relay-no-change s e n after f =
-    let t = ne-eqb (length s) stateLength f in
-    (λ c. (c .given ∙ rw t, c .state ∙ rw t), λ c. (c .given ∙ rw t, c .state ∙ rw t), λ c. (c .given ∙ rw t, c .buffer ∙ rw t))
+no-relay-no-change s e out n after f =
+    let t = ne-eqb (length s) stateLength f in (
+      λ c. (c .given ∙ rw t, c .state ∙ rw t),
+      λ c. (c .given ∙ rw t, c .state ∙ rw t),
+      λ c. (c .given ∙ rw t, c .buffer ∙ rw t),
+      λ c. (c .given ∙ rw t, c .buffer ∙ rw t),
+    )
 
 pub refused-read-back : RefusedReadBack
 refused-read-back s out n after c refused = c .buffer ∙ rw (not-zero-refused (readBackAnswer s out) (λ z. refused (c .given ∙ z)))
+
+pub refused-decide : RefusedDecide
+refused-decide s b out n after c refused =
+    c .buffer ∙ rw (not-zero-refused (decideAnswer s (fitsBytes s b) (numbersOf b) out) (λ z. refused (c .given ∙ z)))
 
 -- a confirmation answered 0 was of a relay
 confirmed-relay : (s e s₁ : List ℕ) → Confirmed s e 0 s₁ → length s ≡ stateLength

@@ -13,7 +13,8 @@ use Rattle.gorsepetal.specs.Calls.{Accepted, proposeAnswer, proposeState, confi
 pub data Call : Type 0 where
   proposing : List ℕ → Call
   confirming : List ℕ → Call
-  reading-back : List ℕ → Call
+  reading-back : (out : List ℕ) → Call
+  deciding : (samples out : List ℕ) → Call
 
 -- Where calls lead: the log of the entries, each with the number given back, and the relay's state.
 pub record Reached : Type 0 where
@@ -29,6 +30,7 @@ next r (proposing e) =
 next r (confirming e) =
     record { log = r .log ▷ confirm e (givenBack (confirmAnswer (r .state) e)); state = confirmState (r .state) e }
 next r (reading-back out) = r
+next r (deciding samples out) = r
 
 -- All calls of a list, the first one first.
 abbrev pub afterCalls : Reached → List Call → Reached
@@ -47,7 +49,7 @@ pub data History : Log → List ℕ → Type 0 where
   fresh : History start freshState
   proposed : {l : Log} {s e after : List ℕ} {n : ℕ} → History l s → Proposed s e n after → History (l ▷ propose e n) after
   confirmed : {l : Log} {s e after : List ℕ} {n : ℕ} → History l s → Confirmed s e n after → History (l ▷ confirm e n) after
-  -- a call that is no entry to the settings: read-back, and any that changes only other parts of the state
+  -- a call that is no entry to the settings: read-back, decide, and any that changes only other parts of the state
   other : {l : Log} {s after : List ℕ} → History l s → length after ≡ stateLength → settingsOf after ≡ settingsOf s → History l after
 
 abbrev pub OverHistories : Type 0

@@ -1,4 +1,9 @@
--- What a reader may rely on (document 01), over the calls' own claims in gorsepetal's `Calls`.
+-- What a reader may rely on (document 01), over the calls' own claims in gorsepetal's `Calls`; and its hand checks.
 pub mod One
+pub mod Table
 pub mod Settings
 pub mod Demand1
+pub mod Demand2
+pub mod Demand3
+pub mod WhichRule
+pub mod HandChecks

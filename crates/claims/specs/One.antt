@@ -1,10 +1,11 @@
 -- Document 01, "What a reader may rely on": a claim leaves one possible result for each input, bad ones too.
-use Prim.Native.Nat.{ℕ, _/_, _%_}
+use Prim.Native.Nat.{ℕ}
 use mathlib.Core.Path.{_≡_}
 use mathlib.Core.List.{List}
+use lib.IntN.{ℤ}
 use Rattle.answers.specs.declared.Answer.{Answer}
-use Rattle.answers.specs.Answers.{number, place, givenBack}
-use Rattle.gorsepetal.specs.Calls.{Proposed, Confirmed, ReadBack}
+use Rattle.answers.specs.Answers.{number, place, givenBack, numberIn, placeIn}
+use Rattle.gorsepetal.specs.Calls.{Proposed, Confirmed, ReadBack, Decided, DecidedNumbers}
 
 -- A claim is about two lent slices, the number given back, and what the slice that may change holds after the call.
 abbrev pub OneResult : (List ℕ → List ℕ → ℕ → List ℕ → Type 0) → Type 0
@@ -19,6 +20,16 @@ OneConfirmed = OneResult Confirmed
 abbrev pub OneReadBack : Type 0
 OneReadBack = OneResult ReadBack
 
+-- Decide is lent a third slice, the relay's state, which it does not change.
+abbrev pub OneDecided : Type 0
+OneDecided = (s : List ℕ) → OneResult (Decided s)
+
+-- Inside, decide is lent numbers, and gives the answer itself.
+abbrev pub OneDecidedNumbers : Type 0
+OneDecidedNumbers =
+    (s : List ℕ) (w : List ℤ) (out : List ℕ) (a a′ : Answer) (after after′ : List ℕ)
+    → DecidedNumbers s w out a after → DecidedNumbers s w out a′ after′ → (a ≡ a′) × (after ≡ after′)
+
 -- And the one number that C gets tells the answer's number and its place.
 abbrev pub NumberAndPlace : Type 0
-NumberAndPlace = (a : Answer) → (givenBack a % 256 ≡ number a) × (givenBack a / 256 ≡ place a)
+NumberAndPlace = (a : Answer) → (numberIn (givenBack a) ≡ number a) × (placeIn (givenBack a) ≡ place a)

@@ -1,19 +1,29 @@
 -- Document 01, "Settings record" and "Numbers given back": what the desk may rely on, call by call. A relay is a state of `stateLength`
--- bytes; a record is accepted where propose answers it with 0.
-use Prim.Native.Nat.{ℕ, _+_, _*_, _≤_}
+-- bytes; a record of 32 bytes is accepted where propose answers it with 0.
+use Prim.Native.Nat.{ℕ, _+_, _*_, _≤_, _<_}
 use mathlib.Core.Path.{_≡_}
 use mathlib.Core.List.{List}
 use lib.ListN.{length, take, drop, getD}
-use Rattle.settings.specs.Fields.{Ranges}
+use Rattle.whole.specs.Exactly.{Exactly}
+use Rattle.samples.specs.Window.{channels, numbersOf}
+use Rattle.samples.specs.Order.{FirstInOrder}
+use Rattle.settings.specs.Fields.{Ranges, ends}
 use Rattle.entry.specs.Pair.{recordLength, nothing}
-use Rattle.gorsepetal.specs.State.{stateLength, settingsOf}
-use Rattle.gorsepetal.specs.Calls.{Accepted, Proposed, Confirmed, ReadBack}
+use Rattle.gorsepetal.specs.State.{stateLength, freshState, settingsOf}
+use Rattle.gorsepetal.specs.Calls.{Accepted, Proposed, Confirmed, ReadBack, Decided}
 
--- A good record, one that propose accepts, has every field in its range and its spare bytes zero.
-abbrev pub AcceptedInRange : Type 0
-AcceptedInRange = (r : List ℕ) → Accepted r → Ranges r
+-- A good record, one that propose accepts, is exactly one that has every field in its range and its spare bytes zero.
+abbrev pub AcceptedExactly : Type 0
+AcceptedExactly = (r : List ℕ) → Exactly (Accepted r) (Ranges r)
 
--- A good record, proposed and then confirmed with the same bytes, is answered 0 twice and is in force. (So no relay refuses all calls.)
+-- "A fresh relay has nothing in force and nothing pending."
+abbrev pub FreshHasNothing : Type 0
+FreshHasNothing =
+    (b out e : List ℕ) (n : ℕ) (after : List ℕ)
+    → (Decided freshState b out n after → n ≡ 1) × (ReadBack freshState out n after → n ≡ 1)
+    × (Confirmed freshState e n after → length e ≡ recordLength → n ≡ 7)
+
+-- A good record, proposed and then confirmed with the same bytes, is answered 0 twice and is in force.
 abbrev pub GoodComesIntoForce : Type 0
 GoodComesIntoForce =
     (s e : List ℕ) (n m : ℕ) (s₁ s₂ : List ℕ) → length s ≡ stateLength → length e ≡ recordLength → Accepted e → Proposed s e n s₁ → Confirmed s₁ e m s₂
@@ -48,12 +58,22 @@ DiffersAtFirst =
     (s e : List ℕ) (k : ℕ) (s₁ : List ℕ) → Confirmed s e (256 * k + 8) s₁
     → (take k (settingsOf s .pending) ≡ take k e) × (getD (settingsOf s .pending) k 0 ≡ getD e k 0 → ⊥)
 
--- A refused read-back writes nothing.
+-- Refusal 4 "names the first missing number in frame order, then channel order": channel c of frame f, where a frame has m channels.
+abbrev pub MissingInOrder : Type 0
+MissingInOrder =
+    (s b out : List ℕ) (f c : ℕ) (after : List ℕ) → let m = channels (ends (settingsOf s .force)) in
+    c < m → Decided s b out (256 * (f * m + c) + 4) after → FirstInOrder m (numbersOf b) f c
+
+-- A refused read-back writes nothing, and neither does a refused decide.
 abbrev pub RefusedReadBack : Type 0
 RefusedReadBack = (s out : List ℕ) (n : ℕ) (after : List ℕ) → ReadBack s out n after → (n ≡ 0 → ⊥) → after ≡ out
+
+abbrev pub RefusedDecide : Type 0
+RefusedDecide = (s b out : List ℕ) (n : ℕ) (after : List ℕ) → Decided s b out n after → (n ≡ 0 → ⊥) → after ≡ out
 
 -- A state slice of another length is answered 17, before all others, and nothing changes.
 abbrev pub NoRelayNoChange : Type 0
 NoRelayNoChange =
-    (s e : List ℕ) (n : ℕ) (after : List ℕ) → (length s ≡ stateLength → ⊥)
-    → (Proposed s e n after → (n ≡ 17) × (after ≡ s)) × (Confirmed s e n after → (n ≡ 17) × (after ≡ s)) × (ReadBack s e n after → (n ≡ 17) × (after ≡ e))
+    (s e out : List ℕ) (n : ℕ) (after : List ℕ) → (length s ≡ stateLength → ⊥)
+    → (Proposed s e n after → (n ≡ 17) × (after ≡ s)) × (Confirmed s e n after → (n ≡ 17) × (after ≡ s))
+    × (ReadBack s out n after → (n ≡ 17) × (after ≡ out)) × (Decided s e out n after → (n ≡ 17) × (after ≡ out))

@@ -1,0 +1,28 @@
+-- What is known of a decide that was answered 0: a good record was in force, and its decision stands at the front of the buffer.
+use Prim.Native.Nat.{ℕ}
+use mathlib.Core.Path.{_≡_, refl, sym, ap, _∙_}
+use mathlib.Core.List.{List, _++_}
+use mathlib.Core.Bool.{Bool, true, false, cond, false≢true}
+use lib.ListN.{drop}
+use Rattle.answers.specs.Answers.{isDone}
+use Rattle.answers.proofs.Numbers.{zero-is}
+use Rattle.samples.specs.Window.{numbersOf}
+use Rattle.decision.specs.Decision.{decisionLength, decision}
+use Rattle.decision.specs.Decide.{windowAnswer}
+use Rattle.gorsepetal.specs.State.{settingsOf}
+use Rattle.gorsepetal.specs.Calls.{Accepted, ready, fitsBytes, decideAnswer, Decided}
+use Rattle.gorsepetal.proofs.Good.{ready-good}
+
+module _ (s b out after : List ℕ) (c : Decided s b out 0 after) where
+  is-done : isDone (decideAnswer s (fitsBytes s b) (numbersOf b) out) ≡ true
+  is-done = ap isDone (zero-is (decideAnswer s (fitsBytes s b) (numbersOf b) out) (sym (c .given)))
+
+  pub in-force : Accepted (settingsOf s .force)
+  in-force = ready-good s (by-test (isDone (ready s)) refl is-done)
+    where
+      by-test : (d : Bool) → isDone (ready s) ≡ d → isDone (cond d (windowAnswer (fitsBytes s b) (numbersOf b) out) (ready s)) ≡ true → d ≡ true
+      by-test true t e = refl
+      by-test false t e = absurd (false≢true (sym t ∙ e))
+
+  pub at-front : after ≡ decision (settingsOf s .force) (numbersOf b) ++ drop decisionLength out
+  at-front = c .buffer ∙ rw is-done

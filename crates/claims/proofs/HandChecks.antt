@@ -1,0 +1,35 @@
+-- The hand checks, each by computation.
+use mathlib.Core.Path.{refl}
+use Rattle.whole.specs.Root.{floorRoot, rootUp}
+use Rattle.whole.specs.Round.{roundBy}
+use Rattle.whole.specs.Sum.{sumOf}
+use Rattle.whole.proofs.Rows.{_&_}
+use Rattle.plane.specs.Plane.{plus, times, scaled, rounded, dot, squaredMagnitude}
+use Rattle.phasors.specs.Sums.{withSample, sumTo, phasorOf}
+use Rattle.phasors.specs.Grid.{total}
+use Rattle.settings.specs.Table.{table}
+use Rattle.settings.specs.Check.{checkedBy}
+use Rattle.distance.specs.Sequence.{sequence}
+use Rattle.distance.specs.Direction.{reachesPickup, torque, sideOf, directionOf}
+use Rattle.distance.specs.Mho.{mho, asserts}
+use Rattle.differential.specs.Differential.{square, endRestraint, restraint, operates}
+use Rattle.claims.specs.HandChecks.{HandChecks}
+
+pub hand-checks : HandChecks
+unfolding roundBy rounded withSample sumTo phasorOf plus times scaled sequence
+    floorRoot rootUp sumOf dot squaredMagnitude total square endRestraint restraint operates mho asserts
+    table checkedBy reachesPickup torque sideOf directionOf
+hand-checks =
+    -- P1 to P6
+    refl & refl & refl & refl & refl & refl
+    -- P7
+    & refl
+    -- P8 to P11
+    & refl & refl & refl & refl & refl & refl & refl & refl & refl
+    -- P12, P13
+    & refl & refl & (λ r. refl)
+    -- P14
+    & (refl, refl, refl, refl) & (refl, refl, refl, refl) & (refl, refl, refl) & (refl, refl, refl)
+    -- x[n] = C[n]
+    & refl
+    & tt
