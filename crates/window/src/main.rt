@@ -1,0 +1,4 @@
+// The window program: the session on standard input.
+fn main() {
+    session::run(0);
+}
