@@ -1,6 +1,7 @@
 /*
-** How firmware enters settings: the commissioning desk proposes a record, mistypes it once, then enters it twice alike. Run it
-** with: sh examples/run
+** How firmware calls the library. The commissioning desk proposes a record, mistypes it once, then enters it twice alike. Then the
+** line is watched: a quiet window, one with a sample missing, and one with a fault; and the same fault with slope 50 in force. Run
+** it with: sh examples/run_firmware
 */
 #include <stdio.h>
 
@@ -12,12 +13,14 @@ static void put(uint8_t *record, int at, int number) {
   record[at + 1] = (uint8_t)((unsigned)number & 255);
 }
 
+enum { ENDS = 2, CHANNELS = 3 + 3 * ENDS, WINDOW = GORSEPETAL_WINDOW_BYTES(ENDS) };
+
 /* The settings of a line with two ends, all but the slope as the planning department gave them. */
 static void fill(uint8_t record[GORSEPETAL_RECORD_LENGTH], int slope) {
   for (int i = 0; i < GORSEPETAL_RECORD_LENGTH; i++) record[i] = 0;
-  put(record, 0, 2);      /* ends */
+  put(record, 0, ENDS);   /* ends */
   put(record, 2, slope);  /* slope, percent */
-  put(record, 4, 100);    /* differential pickup, counts */
+  put(record, 4, 60);     /* differential pickup, counts */
   put(record, 6, 0);      /* replica impedance, real */
   put(record, 8, 1000);   /* and imaginary, thousandths */
   put(record, 10, 850);   /* reach, thousandths of the replica */
@@ -33,8 +36,10 @@ static void fill(uint8_t record[GORSEPETAL_RECORD_LENGTH], int slope) {
 static const char *meaning(uint64_t number) {
   switch (number) {
   case GORSEPETAL_NO_SETTINGS: return "no settings in force";
+  case GORSEPETAL_OTHER_WINDOW_LENGTH: return "the window is of another length";
   case GORSEPETAL_NO_ROOM: return "room below 32 bytes";
-  case GORSEPETAL_ENTRY_LENGTH: return "the entry is not 32 bytes";
+  case GORSEPETAL_MISSING_SAMPLE: return "a sample is missing";
+  case GORSEPETAL_OTHER_ENTRY_LENGTH: return "the entry is not 32 bytes";
   case GORSEPETAL_OUT_OF_RANGE: return "a field is out of range";
   case GORSEPETAL_NOTHING_PENDING: return "nothing is pending";
   case GORSEPETAL_DIFFERS: return "the confirmation differs";
@@ -61,7 +66,30 @@ static void read_back(const uint8_t *state) {
   printf("\n  slope in force: %d percent\n", 256 * out[2] + out[3]);
 }
 
+/* The sample of a channel in a frame: Va, Vb, Vc are channels 0 to 2, the currents of end 1 are 3 to 5, of end 2 6 to 8. */
+static void sample(uint8_t *window, int frame, int channel, int number) { put(window, 2 * (CHANNELS * frame + channel), number); }
+
+/* The fault of examples/run: Ia of end 1 is 100 counts, and Ia of end 2 is 40 the other way. What flows in at end 1 and not out at
+** end 2 is the fault's. A sample of 8 in frame 0, and 0 in the others, is one count. */
+static void outfeed(uint8_t window[WINDOW]) {
+  sample(window, 0, 3, 8 * 100);
+  sample(window, 0, 6, 8 * -40);
+}
+
+/* A field of the decision with 32 bits, upper byte first. */
+static int word(const uint8_t *at) { return 16777216 * at[0] + 65536 * at[1] + 256 * at[2] + at[3]; }
+
+static void decide(const char *step, const uint8_t *state, const uint8_t *window) {
+  uint8_t out[GORSEPETAL_DECISION_LENGTH];
+  uint64_t answer = gorsepetal_decide(state, GORSEPETAL_STATE_LENGTH, window, WINDOW, out, sizeof out);
+  report(step, answer);
+  if (answer != GORSEPETAL_DONE) return; /* then nothing was written to out, and the relay has no decision */
+  printf("  trip %d, phases %d, loops %d, direction %d\n", out[0], out[1], out[2], out[3]);
+  printf("  phase a: differential %d and restraint %d sixty-fourths of a count\n", word(out + 20), word(out + 8));
+}
+
 int main(void) {
+  static uint8_t quiet[WINDOW], fault[WINDOW], broken[WINDOW];
   static uint8_t state[GORSEPETAL_STATE_LENGTH]; /* all zero: a fresh relay */
   uint8_t wanted[GORSEPETAL_RECORD_LENGTH], mistyped[GORSEPETAL_RECORD_LENGTH];
   fill(wanted, 15);
@@ -75,5 +103,16 @@ int main(void) {
   report("propose slope 15", gorsepetal_propose(state, sizeof state, wanted, sizeof wanted));
   report("confirm slope 15", gorsepetal_confirm(state, sizeof state, wanted, sizeof wanted));
   read_back(state);
+
+  outfeed(fault);
+  sample(broken, 3, 7, -32768); /* Ib of end 2 did not come */
+  decide("decide, quiet", state, quiet);
+  decide("decide, a sample missing", state, broken);
+  decide("decide, outfeed fault", state, fault);
+
+  /* Had the desk entered fifty both times, the same fault would stay on the line. */
+  report("propose slope 50", gorsepetal_propose(state, sizeof state, mistyped, sizeof mistyped));
+  report("confirm slope 50", gorsepetal_confirm(state, sizeof state, mistyped, sizeof mistyped));
+  decide("decide, outfeed fault", state, fault);
   return 0;
 }

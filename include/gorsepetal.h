@@ -3,13 +3,14 @@
 **
 ** WHAT THE LIBRARY IS
 **
-** libgorsepetal.a turns what the commissioning desk enters, and later what the line measures, into what the relay does. This
-** version offers settings entry and read-back: a settings record comes into force only when the same 32 bytes are proposed and
-** then confirmed. The measuring calls come next; see LIMITS.
+** libgorsepetal.a turns what the commissioning desk enters and one cycle of samples of the line into a decision. A settings
+** record comes into force only when the same 32 bytes are proposed and then confirmed; it can be read back. Decide measures a
+** window of samples by the record in force, and says whether to trip and why.
 **
-** The library keeps nothing between calls, allocates nothing, and calls nothing: the archive has no undefined symbols. All that a
-** call reads or writes is lent to it for that call. So several threads may call at once, each on a relay's state and on buffers
-** of its own. The archive is for x86-64, System V calling convention. What is proved of it stands in docs/CLAIMS.md.
+** The library keeps nothing between calls, allocates nothing, and calls nothing but memcpy and memset, which a C compiler may use in
+** any code: the archive has no other undefined symbol. All that a call reads or writes is lent to it for that call. So several
+** threads may call at once, each on a relay's state and on buffers of its own. The archive is for x86-64, System V calling
+** convention. What is proved of its source, and what is only tested of the archive, stands in docs/CLAIMS.md.
 **
 ** LENT SLICES
 **
@@ -18,7 +19,7 @@
 **   - The pointer is never null, not even with length 0. With length 0 it may be any valid pointer that is not null; it is never
 **     read or written through.
 **   - The slice lies within one object. It may begin at any address: nothing needs to be aligned.
-**   - The two slices of a call do not overlap. During the call no other thread writes to either, nor reads one that is not const.
+**   - The slices of a call do not overlap. During the call no other thread writes to any of them, nor reads one that is not const.
 **   - A const slice is never written, whatever the answer.
 **
 ** THE RELAY'S STATE
@@ -31,22 +32,26 @@
 **
 ** A record there that propose would refuse counts as absent, wherever its bytes came from; all zero bytes are such a record. The
 ** firmware may keep the 64 bytes in permanent memory and lend them again, and should not write to them otherwise. A byte damaged
-** there is noticed only if the record is then out of range: the record has no checksum.
+** there is noticed only if the record is then out of range: the record has no checksum. It is best to lend a copy in working memory and
+** to store it whole after the call: a call that is cut off midway, as by a loss of power, may leave a record that is part old and
+** part new.
 **
 ** WHAT COMES BACK
 **
 ** Each call gives back one number, 256 times the place plus the number of the table. GORSEPETAL_NUMBER and GORSEPETAL_PLACE take
 ** them apart.
 **
-**   number  name             when                                     place                    given by
-**   0       DONE             done                                     0                        every call
-**   1       NO_SETTINGS      no settings in force                     0                        read_back
-**   3       NO_ROOM          room below 32 bytes                      0                        read_back
-**   5       ENTRY_LENGTH     the settings entry is not 32 bytes       0                        propose, confirm
-**   6       OUT_OF_RANGE     a field is out of range                  offset of the first      propose
-**   7       NOTHING_PENDING  nothing is pending                       0                        confirm
-**   8       DIFFERS          the confirmation differs                 first differing offset   confirm
-**   17      NO_RELAY         the state slice is not 64 bytes          0                        every call
+**   number  name                 when                                 place                    given by
+**   0       DONE                 done                                 0                        every call
+**   1       NO_SETTINGS          no settings in force                 0                        decide, read_back
+**   2       OTHER_WINDOW_LENGTH  the window is of another length      0                        decide
+**   3       NO_ROOM              room below 32 bytes                  0                        decide, read_back
+**   4       MISSING_SAMPLE       a sample is missing                  index of the first       decide
+**   5       OTHER_ENTRY_LENGTH   the settings entry is not 32 bytes   0                        propose, confirm
+**   6       OUT_OF_RANGE         a field is out of range              offset of the first      propose
+**   7       NOTHING_PENDING      nothing is pending                   0                        confirm
+**   8       DIFFERS              the confirmation differs             first differing offset   confirm
+**   17      NO_RELAY             the state slice is not 64 bytes      0                        every call
 **
 ** No number is given back in any other condition, and no other number by these calls. Where several conditions hold, the first
 ** in the call's order of checks is given.
@@ -75,13 +80,45 @@
 ** fault is reported at 22. The fields are checked in order of offset, and these two rules when the range at their offset has
 ** passed. A spare byte that is not zero is reported at its own offset, 26 to 31.
 **
+** WINDOW
+**
+** One cycle of samples: 16 frames in time order. Each frame has Va, Vb, Vc, then Ia, Ib, Ic of end 1, the local end, then of end 2,
+** and so on up to end N. Each sample is a signed number of 16 bits, two's complement, upper byte first. So a window has
+** 16(3 + 3N) numbers, and twice as many bytes, GORSEPETAL_WINDOW_BYTES(N):
+**
+**   N         2     3     4     5     6
+**   numbers   144   192   240   288   336
+**   bytes     288   384   480   576   672
+**
+** The number of frame f and channel c, both counted from 0, has the index (3 + 3N)f + c. The number -32768, bytes 80 00, marks a
+** missing sample. A count is the unit of a sample: a steady wave of peak p has a phasor of p counts, so pickups are peak values, not
+** effective ones.
+**
+** DECISION
+**
+** 32 bytes, GORSEPETAL_DECISION_LENGTH. U is the restraint of a phase and s the squared magnitude of its differential, so that U
+** and the root of 4096 s are both in sixty-fourths of a count.
+**
+**   bytes      content
+**   0          trip: 1 if any phase operates, or if the direction is forward and any loop asserts; else 0
+**   1          the phases whose differential operates, added up: a=1, b=2, c=4
+**   2          the loops that assert, added up: AG 1, BG 2, CG 4, AB 8, BC 16, CA 32
+**   3          direction: 0 none, 1 forward, 2 reverse
+**   4 to 7     zero
+**   8 to 11    U of phase a, 32 bits, upper byte first
+**   12 to 15   U of phase b
+**   16 to 19   U of phase c
+**   20 to 23   floor of the root of 4096 s of phase a, 32 bits, upper byte first
+**   24 to 27   the same of phase b
+**   28 to 31   the same of phase c
+**
 ** OUTSIDE THE LIBRARY
 **
 ** Transformer differential, travelling waves, alignment of clocks, polarising memory and breaker-failure timing.
 **
 ** LIMITS
 **
-** This version measures nothing and trips nothing. The measuring calls come next, and their limits will be:
+** What a decision cannot tell:
 **   - a balanced three-phase fault has no negative sequence, so its direction is none and distance cannot trip on it;
 **   - where the polarising quantity Vp is zero, no loop asserts;
 **   - clipped samples are not detected.
@@ -96,15 +133,19 @@
 extern "C" {
 #endif
 
-/* Lengths in bytes: a relay's state, and a settings record. */
+/* Lengths in bytes: a relay's state, a settings record, a decision, and a window of a line with so many ends. */
 #define GORSEPETAL_STATE_LENGTH 64
 #define GORSEPETAL_RECORD_LENGTH 32
+#define GORSEPETAL_DECISION_LENGTH 32
+#define GORSEPETAL_WINDOW_BYTES(ends) (2 * 16 * (3 + 3 * (ends)))
 
 /* The numbers given back: the table above says when. */
 #define GORSEPETAL_DONE 0
 #define GORSEPETAL_NO_SETTINGS 1
+#define GORSEPETAL_OTHER_WINDOW_LENGTH 2
 #define GORSEPETAL_NO_ROOM 3
-#define GORSEPETAL_ENTRY_LENGTH 5
+#define GORSEPETAL_MISSING_SAMPLE 4
+#define GORSEPETAL_OTHER_ENTRY_LENGTH 5
 #define GORSEPETAL_OUT_OF_RANGE 6
 #define GORSEPETAL_NOTHING_PENDING 7
 #define GORSEPETAL_DIFFERS 8
@@ -164,6 +205,27 @@ uint64_t gorsepetal_confirm(uint8_t *state, size_t state_len, const uint8_t *ent
 ** Refused: nothing is written to out.
 */
 uint64_t gorsepetal_read_back(const uint8_t *state, size_t state_len, uint8_t *out, size_t out_len);
+
+/*
+** Decide on a window by the settings in force.
+**
+**   state     the relay, 64 bytes; never changed
+**   samples   the window, of the length for the ends N of the record in force; never changed
+**   out       room for the decision, 32 bytes or more
+**
+** Checked in this order:
+**   17              state_len is not 64
+**   1  at 0         no settings are in force, or what is stored there is a record that propose would refuse
+**   2  at 0         samples_len is not GORSEPETAL_WINDOW_BYTES(N); so every odd length, and that of a window of other ends
+**   3  at 0         out_len is below 32
+**   4  at index     a sample is missing: the first, by its index among the numbers, which is half its offset in bytes
+**
+** Done (0): the first 32 bytes of out are the decision; later ones stay as they were.
+** Refused: nothing is written to out.
+** A pending record has no part in it: the record in force decides until another is confirmed.
+*/
+uint64_t gorsepetal_decide(const uint8_t *state, size_t state_len, const uint8_t *samples, size_t samples_len, uint8_t *out,
+                           size_t out_len);
 
 #ifdef __cplusplus
 }

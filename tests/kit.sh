@@ -3,15 +3,18 @@
 #
 #   sh tests/kit.sh archive                prove the library and write build/libgorsepetal.a
 #   sh tests/kit.sh ready                  the same, but only if that file is missing or older than the crates
-#   sh tests/kit.sh crate NAME             prove crates/NAME, a crate for tests alone, and write build/libNAME.a
+#   sh tests/kit.sh crate NAME             prove crates/NAME and write build/libNAME.a
+#   sh tests/kit.sh window                 prove the window program and write build/window
+#   sh tests/kit.sh window_ready           the same, but only if that file is missing or older than the crates
 #   sh tests/kit.sh header                 compile the header alone, as C99 and as C++
-#   sh tests/kit.sh alone                  link the archive with nothing beside it: it must need no symbol
+#   sh tests/kit.sh alone                  link the archive with memcpy and memset alone: it must need no other symbol
 #   sh tests/kit.sh object SOURCE NAME O3  compile SOURCE to build/NAME.o, at -O3 or as said
 #   sh tests/kit.sh program SOURCE NAME..  compile SOURCE and link it with the archive, and with the objects named after it, to build/NAME
-#   sh tests/kit.sh run NAME               run build/NAME
+#   sh tests/kit.sh run NAME               run build/NAME, with the standard input of this call
+#   sh tests/kit.sh words NAME             print the words that do so, one a line, for a caller that runs it many times
 #
-# GORSEPETAL_ARCHIVE names an archive to use in place of build/libgorsepetal.a. The archive is for x86-64, so C is compiled for
-# x86-64 everywhere; on Arm the kit's emulator runs it.
+# GORSEPETAL_ARCHIVE names an archive to use in place of build/libgorsepetal.a. The archive and the window program are for x86-64, so
+# C is compiled for x86-64 everywhere; on Arm the kit's emulator runs it all.
 set -eu
 cd "$(dirname "$0")/.."
 
@@ -28,17 +31,28 @@ archive=${GORSEPETAL_ARCHIVE:-$built}
 mkdir -p build
 
 crate() {
-  echo "proving crates/$1 and writing build/lib$1.a: about a minute from nothing" >&2
+  echo "proving crates/$1 and writing build/lib$1.a: some minutes from nothing" >&2
   rt staticlib "$1" >"build/$1.log" 2>&1 || { cat "build/$1.log" >&2; fail "crates/$1 was not proved"; }
   cp "target/staticlib/lib$1.a" "build/lib$1.a"
 }
 
 archive() { crate gorsepetal; }
 
+window() {
+  echo "proving crates/window and writing build/window: some minutes from nothing" >&2
+  rt check window >build/window.log 2>&1 || { cat build/window.log >&2; fail "crates/window was not proved, or printed something else"; }
+  cp target/bin/window build/window
+}
+
+# Whether a file that is built from the crates is missing, or older than they are.
+stale() { [ ! -f "$1" ] || [ -n "$(find crates.txt crates -newer "$1")" ]; }
+
+window_ready() { if stale build/window; then window; fi; }
+
 # An archive that the caller names is taken as it is.
 ready() {
   [ -z "${GORSEPETAL_ARCHIVE:-}" ] || return 0
-  if [ ! -f "$built" ] || [ -n "$(find crates.txt crates -newer "$built")" ]; then archive; fi
+  if stale "$built"; then archive; fi
 }
 
 compile() { "$bin/clang" --target=x86_64-linux-gnu -Wall -Wextra -Wpedantic -Werror -isystem tests/include -Iinclude "$@"; }
@@ -49,7 +63,8 @@ header() {
 }
 
 alone() {
-  "$bin/ld.lld" -static -z defs --entry=gorsepetal_propose -o build/alone --whole-archive "$archive"
+  compile -std=c99 -O1 -ffreestanding -fno-builtin -c tests/c/alone.c -o build/alone.o
+  "$bin/ld.lld" -static -z defs --entry=gorsepetal_propose -o build/alone build/alone.o --whole-archive "$archive"
 }
 
 object() { compile -std=c99 -fPIE "-$3" -c "$1" -o "build/$2.o"; }
@@ -68,15 +83,26 @@ program() {
     "$lib/libc.so.6" "$lib/libc_nonshared.a" "$lib/libgcc.a" "$lib/crtendS.o" "$lib/crtn.o"
 }
 
+# The kit's own loader and C library, so that nothing of the machine's is needed; on Arm behind the kit's emulator.
+words() {
+  if [ "$machine" != x86_64 ]; then echo "$bin/qemu-x86_64"; fi
+  printf '%s\n' "$lib/ld-linux-x86-64.so.2" --library-path "$lib" "$PWD/build/$1"
+}
+
 run() {
-  if [ "$machine" = x86_64 ]; then exec "build/$1"; else exec "$bin/qemu-x86_64" "build/$1"; fi
+  name=$1
+  set --
+  while IFS= read -r word; do set -- "$@" "$word"; done <<END
+$(words "$name")
+END
+  exec "$@"
 }
 
 case "${1:-}" in
-  archive | ready | header | alone) [ $# -eq 1 ] || fail "$1 takes no further word" ;;
+  archive | ready | window | window_ready | header | alone) [ $# -eq 1 ] || fail "$1 takes no further word" ;;
   object) [ $# -eq 4 ] || fail "object takes SOURCE, NAME and a level" ;;
   program) [ $# -ge 3 ] || fail "program takes SOURCE and NAME, and objects" ;;
-  crate | run) [ $# -eq 2 ] || fail "$1 takes NAME" ;;
-  *) fail "one of archive, ready, crate, header, alone, object, program, run is wanted" ;;
+  crate | run | words) [ $# -eq 2 ] || fail "$1 takes NAME" ;;
+  *) fail "one of archive, ready, crate, window, window_ready, header, alone, object, program, run, words is wanted" ;;
 esac
 "$@"

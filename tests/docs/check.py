@@ -2,14 +2,17 @@
 """Holds the header and the documents to what is in the tree.
 
 - include/gorsepetal.h declares the exported functions of crates/gorsepetal, and no others; its constants are the public constants of
-  crates/answers, crates/entry and crates/gorsepetal, and no others; its tables of numbers and of fields are those of the source.
+  crates/answers, crates/entry, crates/decision and crates/gorsepetal, and no others; its tables of numbers and of fields are those
+  of the source.
 - In README.md and docs/: each path in backticks is there (`*` stands for any name); in `name` in `path`, or `a`, `b` in `path`, each
   name is declared in that file; the commands and the output that README.md shows are there.
-- docs/CLAIMS.md: the table of wrong relays names each must-fail edit, and nothing else.
+- docs/CLAIMS.md: the table of wrong relays names each must-fail edit, and nothing else; the counts of assumed C functions are those that
+  the checks of the crates gave, which must all have been proved here.
 """
 import sys
 
 sys.dont_write_bytecode = True
+import axioms  # noqa: E402
 import documents  # noqa: E402
 import header  # noqa: E402
 from tree import faults  # noqa: E402
@@ -25,6 +28,7 @@ def main():
         'names': documents.check_names(),
         'must-fail edits': documents.check_edits(),
         'commands': documents.check_commands(),
+        "crates' axioms": axioms.check_axioms(),
     }
     faults.extend(f'no {kind} found to check' for kind, count in counts.items() if not count)
     if faults:

@@ -97,6 +97,6 @@ def check_commands():
     for words in commands:
         if not (ROOT / words[-1]).is_file():
             faults.append(f'{README}: `{" ".join(words)}`: {words[-1]} is not there')
-    if read(Path('examples/firmware.expected')) not in blocks(README, 'text'):
-        faults.append(f'{README}: no block shows what examples/firmware.expected has')
+    if read(Path('examples/run.expected')) not in blocks(README, 'text'):
+        faults.append(f'{README}: no block shows what examples/run.expected has')
     return len(commands)

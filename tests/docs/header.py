@@ -69,13 +69,18 @@ def number(text):
     return int(m.group(1), 0) if m else None
 
 
+# The crates whose public constants the header has, each with what the header puts before their names.
+PREFIXES = {'answers': '', 'entry': '', 'decision': 'DECISION_', 'gorsepetal': ''}
+
+
 def public_constants():
     found = {}
-    for path, text in sources('answers', 'entry', 'gorsepetal'):
-        for m in re.finditer(r'\bpub\s+const\s+(\w+)\s*:\s*\w+\s*=\s*([^;]+);', text):
-            name, value = m.group(1), number(m.group(2))
-            if value is not None and found.setdefault(name, value) != value:
-                fault(path, text, m.start(), f'{name} is {value} here and {found[name]} elsewhere')
+    for crate, prefix in PREFIXES.items():
+        for path, text in sources(crate):
+            for m in re.finditer(r'\bpub\s+const\s+(\w+)\s*:\s*\w+\s*=\s*([^;]+);', text):
+                name, value = prefix + m.group(1), number(m.group(2))
+                if value is not None and found.setdefault(name, value) != value:
+                    fault(path, text, m.start(), f'{name} is {value} here and {found[name]} elsewhere')
     return found
 
 
@@ -102,7 +107,8 @@ def public_numbers():
 
 
 def check_number_table():
-    """The table of numbers is that of crates/answers; each call's list of checks has the numbers that the table says it gives."""
+    """The table of numbers is that of crates/answers; each call's list of checks has the numbers that the table says it gives, in
+    document 01's order."""
     text, wanted = read(HEADER), public_numbers()
     rows = list(re.finditer(r'^\*\*   (\d+)\s+([A-Z_]+)\s.*\s{2,}(\S.*)$', text, flags=re.MULTILINE))
     found = {m.group(2): int(m.group(1)) for m in rows}
@@ -111,7 +117,7 @@ def check_number_table():
     for m in re.finditer(r'/\*((?:(?!\*/).)*)\*/\s*uint64_t gorsepetal_(\w+)\(', text, flags=re.DOTALL):
         listed = [int(n) for n in re.findall(r'^\*\*   (\d+)\s+(?:at|state_len)', m.group(1), flags=re.MULTILINE)]
         given = {int(row.group(1)) for row in rows if m.group(2) in row.group(3).split(', ') or row.group(3) == 'every call'} - {0}
-        if set(listed) != given or len(listed) != len(given):
+        if listed != [17, *sorted(given - {17})]:  # 17 stands before all others; the others go up
             fault(HEADER, text, m.start(), f'{m.group(2)} lists the checks {listed}; the table of numbers gives it {sorted(given)}')
     return len(rows)
 

@@ -3,9 +3,9 @@ windows channel by channel."""
 import math
 import random
 import struct
-from typing import Iterator, NamedTuple
+from typing import Collection, Iterator, NamedTuple
 
-from measuring import COSINES, Line, Phasor, channels
+from measuring import COSINES, MISSING, Line, Phasor, channels
 from settings import FIELDS, first_fault
 
 ENDS = range(2, 6 + 1)
@@ -133,6 +133,12 @@ def one_channel(label: str, line: Line, index: int,
     by_channel = [[0] * 16] * index + [samples]
     return Case(f'{label}, channel {index}', line,
                 window(by_channel, line.ends))
+
+
+def without(numbers: list[int], places: Collection[int]) -> list[int]:
+    """The numbers, missing at these places."""
+    return [MISSING if at in places else number
+            for at, number in enumerate(numbers)]
 
 
 def as_data(numbers: list[int]) -> bytes:

@@ -1,17 +1,9 @@
-"""The calls that are compared: first the cases that document 01's rules suggest, one by one, then random ones without end.
-
-A history lends one relay and carries it from call to call. A single call is a history of one step.
-"""
+"""The calls of propose, confirm and read-back that are compared: first the cases that document 01's rules suggest, one by one, then
+random ones."""
 from itertools import chain, combinations
-from typing import List, NamedTuple, Tuple
 
+from calls import History
 from settings import FIELDS, NOTHING, RECORD, SPARE, SQUARES, STATE
-
-
-class History(NamedTuple):
-    state: bytes
-    steps: List[Tuple[str, bytes]]  # the call's name, and the entry or the buffer that is lent
-
 
 # The record of "Window program", and the same with slope 50.
 SAMPLE = bytes.fromhex('0002000F0064000003E80352029B0000000003E8FED4012C0032000000000000')
@@ -165,25 +157,3 @@ def single(rng):
     entry = rng.choice((any_record(rng), state[:RECORD], state[RECORD:], flip(state[RECORD:], rng.randrange(RECORD), 1)))
     call = rng.choice(('propose', 'confirm', 'read_back'))
     return History(any_length(rng, state), [(call, any_length(rng, entry))])
-
-
-def long(rng):
-    """A desk at work: proposals, confirmations right and wrong, third entries and read-backs, on one relay."""
-    state = rng.choice((bytes(STATE), good(rng) + NOTHING, any_record(rng) + any_record(rng)))
-    wanted, steps = good(rng), []
-    for _ in range(rng.randint(4, 40)):
-        one_bit = flip(wanted, rng.randrange(RECORD), 1 << rng.randrange(8))
-        slip = rng.choice((one_bit, any_record(rng), wanted[:rng.randrange(RECORD)]))
-        steps.append(rng.choice((
-            ('propose', wanted), ('propose', wanted), ('propose', slip),
-            ('confirm', wanted), ('confirm', wanted), ('confirm', slip),
-            ('read_back', noise(rng, rng.choice((0, 31, 32, 33, 64)))),
-        )))
-        if rng.random() < 0.1:
-            wanted = good(rng)
-    return History(state, steps)
-
-
-def endless(rng):
-    while True:
-        yield single(rng) if rng.random() < 0.9 else long(rng)

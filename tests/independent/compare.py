@@ -1,103 +1,46 @@
 #!/usr/bin/env python3
-"""Compares the archive with settings.py, call by call: what came back, the state, and every byte of every slice and around it.
+"""Compares the archive with settings.py and decision.py, call by call: what came back, the state, and every byte of every slice and
+around it. What decide says is held against demand 3 too.
 
 compare.py [--count N] [--seed S] [--archive PATH]
 
-It makes N calls at least: all fixed cases, then random ones. The first difference ends it, and so does an answer of document 01
-that no call gave.
+It makes N calls at least: all fixed cases, then random ones. The first difference ends it, and so do a hand check of document 01
+that the model does not meet, and at the end an answer of document 01, a bit of a decision or a side of a rule that was not seen.
 """
 import random
 import sys
-from collections import Counter
 from itertools import chain
-from typing import NamedTuple
 
 sys.dont_write_bytecode = True
 import archive  # noqa: E402
-import cases  # noqa: E402
-import settings  # noqa: E402
+import calls  # noqa: E402
+import decision_checks  # noqa: E402
+import demand3  # noqa: E402
+import hand_checks  # noqa: E402
+import histories  # noqa: E402
+from tally import Tally  # noqa: E402
 
-BEFORE, BEHIND = bytes(range(101, 118)), bytes(range(201, 218))  # odd in length, so that slices also begin at odd addresses
-BATCH = 20000
-
-
-class Made(NamedTuple):
-    """One call as the model has it."""
-    call: str
-    state: bytes
-    other: bytes
-    wanted: settings.Result
-
-
-def guarded(data):
-    return BEFORE + data + BEHIND
-
-
-def lend(letter, data):
-    """One slice in the driver's form."""
-    return letter.encode() + bytes([len(BEFORE)]) + len(data).to_bytes(3, 'big') + guarded(data)
-
-
-def follow(history):
-    """The model's way through a history: the calls, and the driver's input for them."""
-    state, made, text = history.state, [], [lend('s', history.state)]
-    for call, other in history.steps:
-        wanted = settings.CALLS[call](state, other)
-        made.append(Made(call, state, other, wanted))
-        text.append(lend(call[0], other))
-        state = wanted.state
-    return made, text
-
-
-def as_bytes(made):
-    wanted = made.wanted
-    return wanted.to_c().to_bytes(8, 'big') + guarded(wanted.state) + guarded(wanted.other)
-
-
-def shown(part):
-    """A slice, for a person; the guards only where they changed."""
-    before, data, behind = part[:len(BEFORE)], part[len(BEFORE):-len(BEHIND)], part[-len(BEHIND):]
-    kept = (before, behind) == (BEFORE, BEHIND)
-    return f'{data.hex()} ({len(data)} bytes)' + ('' if kept else f', changed around it: {before.hex()} and {behind.hex()}')
-
-
-def difference(made, got, status):
-    """The whole call and both results, for a person."""
-    def result(raw):
-        answer, end = int.from_bytes(raw[:8], 'big'), 8 + len(guarded(made.state))
-        return f'{answer % 256} at {answer // 256}\n    state {shown(raw[8:end])}\n    other {shown(raw[end:])}'
-
-    wanted = as_bytes(made)
-    found = result(got) if len(got) == len(wanted) else f'no result: the driver ended with status {status}'
-    return (f'DIFFERENCE in {made.call}\n  lent\n    state {shown(guarded(made.state))}\n    other {shown(guarded(made.other))}\n'
-            f'  document 01: {result(wanted)}\n  archive: {found}')
-
-
-def report(seen):
-    """How often each answer was seen; an answer of document 01 that was not is a fault."""
-    allowed = [(call, number, place) for call, numbers in settings.ANSWERS.items() for number, places in numbers.items()
-               for place in places]
-    for call, number, place in allowed:
-        print(f'{call} {number} at {place}: {seen[call, number, place]}')
-    faults = [f'{call} {number} at {place} was never seen' for call, number, place in allowed if not seen[call, number, place]]
-    others = sorted(set(seen) - set(allowed))
-    faults += [f'{call} {number} at {place} is no answer of document 01' for call, number, place in others]
-    if faults:
-        sys.exit('\n'.join(faults))
+BATCH = 10000
+MS = (1, 1000)  # for demand 3
 
 
 def main():
-    words = archive.arguments(__doc__, 100000)
-    archive.build('driver', words.archive)
-    seen = Counter()
-    fixed = list(cases.fixed())
+    words = archive.arguments(__doc__, 90000, '--archive')
+    by_hand = [*hand_checks.checks(), *decision_checks.checks()]
+    archive.stop_at([f'{what}: the model gives {got}, document 01 {wanted}' for what, got, wanted in by_hand if got != wanted])
+    archive.build(words.archive)
+    tally = Tally()
+    fixed = list(histories.fixed())
     count = max(words.count, sum(len(history.steps) for history in fixed))
-    histories = chain(fixed, cases.endless(random.Random(words.seed)))
-    for calls, text in archive.batches(map(follow, histories), count, BATCH):
-        archive.compare('driver', calls, text, as_bytes, difference)
-        seen.update((made.call, made.wanted.number, made.wanted.place) for made in calls)
-    report(seen)
-    print(f'independent comparison: {sum(seen.values())} calls agree, seed {words.seed}')
+    all_histories = chain(fixed, histories.endless(random.Random(words.seed)))
+    for made, text in archive.batches(archive.first(map(calls.follow, all_histories), count), BATCH):
+        for one, got in zip(made, archive.compare(made, text), strict=True):
+            tally.add(one)
+            demand3.hold(one, got, MS)
+    archive.stop_at(list(tally.report()))
+    by_call = ', '.join(f'{number} {call}' for call, number in tally.calls.items())
+    total = sum(tally.calls.values())
+    print(f'independent comparison: {len(by_hand)} hand checks, {total} calls agree ({by_call}), seed {words.seed}')
 
 
 if __name__ == '__main__':

@@ -1,32 +1,41 @@
 #!/usr/bin/env python3
-"""Looks for a counterexample to demand 3 of document 01 in what the archive of
-crates/trial says of a window.
+"""Looks for a counterexample to demand 3 of document 01 in what decide says of
+a window.
 
 demand3.py [--count N] [--seed S] [--archive PATH]
 
 It takes N windows near the edge of the demand, the closest known among them,
-and compares what comes back with differential.py. Then each phase, at each
-slope and pickup that is tried, is held against the half of the demand that
-could be wrong about it, for m = 1, 2, 3, 10, 1000 and one more by chance. The
-first difference ends it, and so does the first counterexample. It fails at the
-end too if the search was blind: if no phase would have been a counterexample
-to a half with 131072 in place of 196608, or the closest known was not seen.
+each with a record for every slope and pickup that is tried on it, and compares
+what comes back with decision.py. Then each phase is held against the half of
+the demand that could be wrong about it, for m = 1, 2, 3, 10, 1000 and one more
+by chance. The first difference ends it, and so does the first counterexample.
+It fails at the end too if the search was blind: if no phase would have been a
+counterexample to a half with 131072 in place of 196608, or the closest known
+was not seen.
 """
+import functools
 import random
 import sys
-from itertools import chain, count, product
+from itertools import chain, islice, product
 
 sys.dont_write_bytecode = True
 import archive  # noqa: E402
-import asked  # noqa: E402
+import calls  # noqa: E402
+import chosen  # noqa: E402
 import currents  # noqa: E402
 import equalities  # noqa: E402
-from asked import Question  # noqa: E402
-from differential import F, H, L, first_half, second_half  # noqa: E402
+from building import as_data  # noqa: E402
+from calls import History  # noqa: E402
+from cases import ROOM  # noqa: E402
+from decision import DECISION, FORM  # noqa: E402
+from differential import (F, H, L, by_phase, first_half,  # noqa: E402
+                          second_half, slope)
 from hunting import first_band, second_band  # noqa: E402
-from trying import possible  # noqa: E402
+from measuring import numbers  # noqa: E402
+from settings import NOTHING, RECORD  # noqa: E402
+from sides import NAMES  # noqa: E402
 
-BATCH = 1000
+BATCH = 5000
 MS = (1, 2, 3, 10, 1000)
 LARGEST_M = 10**6
 TOO_LITTLE = 131072
@@ -72,64 +81,92 @@ SECOND = Half('second half, of phases with s >= pickup² that do not operate',
               second_half, second_band, 155727)
 
 
-def halves(phase, pickup, operating):
-    """Those that could be wrong about a phase, by what the archive says."""
+# ---- What the archive says -------------------------------------------------
+
+def said(made, got):
+    """Of each phase whether it operates, U and the root of 4096 s, by the
+    archive's own bytes."""
+    out = got[-len(calls.guarded(made.step.other)):][len(calls.BEFORE):]
+    _, bits, _, _, *six = FORM.unpack(out[:DECISION])
+    return [(bits & bit > 0, U, root)
+            for bit, U, root in zip((1, 2, 4), six[:3], six[3:], strict=True)]
+
+
+def halves(operating, root, pickup):
+    """Those that could be wrong about a phase. s >= pickup² exactly when the
+    floor of the root of 4096 s is at least 64 times the pickup."""
     if operating:
         return [FIRST]
-    return [SECOND] if phase.s >= pickup**2 else []
+    return [SECOND] if root >= 64 * pickup else []
 
 
-def each(made, phases, ms):
-    """Each phase of a window, at each pair that document 01 has and with each
-    m."""
-    for at, phase in enumerate(phases):
-        pairs = zip(made.tries, phase.operates, strict=True)
-        for (K, pickup), operating in pairs:
-            if not possible([(K, pickup)]):
-                continue
-            for half, m in product(halves(phase, pickup, operating), ms):
-                yield half, at, K, pickup, m
+@functools.lru_cache(maxsize=8)
+def sums_by_phase(samples, ends):
+    return [phase.sums for phase in by_phase(numbers(samples), ends)]
 
 
-def contradiction(half, made, phases, at, K, pickup, m):
-    """The whole window and the numbers of the demand, for a person."""
-    sums, phase = made.phases[at].sums, phases[at]
-    return (f'COUNTEREXAMPLE to demand 3 in {asked.window_text(made)}\n'
-            f'  {half.text}: {asked.PLACES[at]}, K={K}, pickup {pickup}, '
-            f'm={m}\n'
-            f'  archive: s={phase.s}, U={phase.U}, '
-            f'operates: {half is FIRST}\n'
+def contradiction(half, made, name, of_archive, sums, m):
+    """The whole call and the numbers of the demand, for a person."""
+    ends, K, pickup = slope(made.state[:RECORD])
+    operating, U, root = of_archive
+    return (f'COUNTEREXAMPLE to demand 3 in {made.label}\n'
+            f'  {half.text}: phase {name}, {ends} ends, K={K}, '
+            f'pickup {pickup}, m={m}\n'
+            f'  state {made.state.hex()}\n'
+            f'  samples {made.step.samples.hex()}\n'
+            f'  archive: operates: {operating}, U={U}, root of 4096 s {root}\n'
             f'  A and B of each end: {[tuple(pair) for pair in sums]}\n'
             f'  L={L(m, sums)}, H={H(m, sums)}, F={F(m, sums)}')
 
 
 def hold(made, got, ms):
-    """What the archive says of a window, against the demand."""
-    phases = asked.came(got)
-    for half, at, K, pickup, m in each(made, phases, ms):
-        if half.look(K, m, made.phases[at].sums):
-            sys.exit(contradiction(half, made, phases, at, K, pickup, m))
+    """What the archive says of a window, if it decided on one, against the
+    demand."""
+    if made.step.call != 'decide' or made.wanted.number != 0:
+        return
+    ends, K, pickup = slope(made.state[:RECORD])
+    by_name = zip(NAMES, said(made, got),
+                  sums_by_phase(made.step.samples, ends), strict=True)
+    for name, of_archive, sums in by_name:
+        operating, _, root = of_archive
+        for half, m in product(halves(operating, root, pickup), ms):
+            if half.look(K, m, sums):
+                sys.exit(contradiction(half, made, name, of_archive, sums, m))
+
+
+# ---- The search ------------------------------------------------------------
+
+def each(found):
+    """Each window with every record that is tried on it."""
+    for label, record, window in chosen.tried(found):
+        yield History(record + NOTHING,
+                      [('decide', ROOM, as_data(window))], label)
+
+
+def look_at(found, rng):
+    """Holds windows against the demand, and gives the number of decides."""
+    total, tried = 0, chain.from_iterable(map(each, found))
+    for made, text in archive.batches(map(calls.follow, tried), BATCH):
+        for one, got in zip(made, archive.compare(made, text), strict=True):
+            hold(one, got, (*MS, rng.randint(1, LARGEST_M)))
+        total += len(made)
+    return total
 
 
 def main():
-    words = archive.arguments(__doc__, 20000)
-    archive.build(asked.DRIVER, words.archive or archive.TRIAL)
-    rng, total = random.Random(words.seed), 0
+    words = archive.arguments(__doc__, 20000, '--archive')
+    archive.build(words.archive)
+    rng, known = random.Random(words.seed), list(equalities.known())
+    total = look_at(known, rng)
+    for half in (FIRST, SECOND):
+        half.with_too_little = 0    # the climb has to find its own
     near_edge = currents.near_edge(random.Random(words.seed))
-    found = map(Question, chain(equalities.known(), near_edge))
-    made = map(asked.ask, count(1), found)
-    for calls, text in archive.batches(map(asked.follow, made), words.count,
-                                       BATCH):
-        left = archive.compare(asked.DRIVER, calls, text, asked.as_bytes,
-                               asked.difference)
-        for one, got in zip(calls, left, strict=True):
-            hold(one, got, (*MS, rng.randint(1, LARGEST_M)))
-        total += len(calls)
+    total += look_at(islice(near_edge, words.count - len(known)), rng)
     for half in (FIRST, SECOND):
         half.report()
     archive.stop_at([*FIRST.blind(), *SECOND.blind()])
-    print(f'demand 3: no counterexample in {total} windows near its edge, '
-          f'seed {words.seed}')
+    print(f'demand 3: no counterexample in {words.count} windows near its '
+          f'edge, {total} decides, seed {words.seed}')
 
 
 if __name__ == '__main__':

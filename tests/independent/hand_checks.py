@@ -1,14 +1,15 @@
 """The hand checks of document 01 that concern measuring.py, by its numbers.
 
-checks() puts them to measuring.py. through_windows() has the same as windows,
-with what the document gives for each, so that they reach an archive too.
+checks() puts them to measuring.py. of_channel() and of_end_1() have the same
+as windows, so that they reach an archive too.
 """
+import itertools
 from typing import Iterator, NamedTuple
 
 from building import ENDS, Case, exact_case, one_channel, pulse
 from measuring import (COSINES, Line, Loop, Phasor, asserts, channels,
                        direction, loop_bits, loops, negative, phasor,
-                       reaches_pickup)
+                       positive, reaches_pickup)
 
 ZERO = Phasor(0, 0)
 # D of P14, Z of P12; the rest as in the document's example record, but for
@@ -38,6 +39,9 @@ OF_CHANNEL = (
 )
 # P14 by zf and pickup of 3I2: the direction.
 P14 = {(-499, 100): 1, (-500, 100): 0, (-499, 101): 0}
+# What docs/HAND-CHECKS.md works out by hand: V and I of end 1.
+EXAMPLE = ([Phasor(1000, 0), Phasor(-1000, -1732), Phasor(-1000, 1732)],
+           [Phasor(0, -1000), ZERO, ZERO])
 
 
 # ---- In measuring.py -------------------------------------------------------
@@ -81,61 +85,53 @@ def checks():
     yield 'P14 pickup 100', reaches_pickup(Phasor(100, 0), 100), True
     yield 'P14 pickup 101', reaches_pickup(Phasor(100, 0), 101), False
     yield from no_voltage()
+    volts, amps = EXAMPLE
+    yield 'example, 3V1', positive(*volts), (5000, 0)
+    yield 'example, 3V2', negative(*volts), (-1000, 0)
+    yield 'example, 3I2', negative(*amps), (0, -1000)
 
 
 # ---- Through windows -------------------------------------------------------
 
-def of_channel() -> Iterator[tuple[Case, dict]]:
-    for name, samples, (re, im) in OF_CHANNEL:
-        for ends in ENDS:
-            for index in range(channels(ends)):
-                yield (one_channel(name, LINE._replace(ends=ends), index,
-                                   samples),
-                       {f'phasor {index}, real': re,
-                        f'phasor {index}, imaginary': im})
+def of_channel() -> Iterator[Case]:
+    """P1 to P6 and x[n]=C[n], on every channel."""
+    for (name, samples, _), ends in itertools.product(OF_CHANNEL, ENDS):
+        for index in range(channels(ends)):
+            yield one_channel(name, LINE._replace(ends=ends), index, samples)
 
 
-def of_end_1(name: str, line: Line, v, i, **expected):
-    """A check of what is measured at end 1, at the line's own reach."""
-    return (exact_case(name, line, v, i),
-            {f'{what} at reach {line.r}': number
-             for what, number in expected.items()})
-
-
-def worked_example() -> Iterator[tuple[Case, dict]]:
-    """What docs/HAND-CHECKS.md works out by hand, with its numbers."""
-    v = [(1000, 0), (-1000, -1732), (-1000, 1732)]
-    i = [(0, -1000), ZERO, ZERO]
-    quantities = {'3V1, real': 5000, '3V1, imaginary': 0,
-                  '3V2, real': -1000, '3V2, imaginary': 0,
-                  '3I2, real': 0, '3I2, imaginary': -1000,
-                  'pickup': 1, 'direction': 1}
-    for r, bits in ((850, 1), (600, 1), (599, 0)):
-        line = LINE._replace(r=r, pickup=50)
-        yield of_end_1(f'the example worked by hand, r={r}', line, v, i,
-                       loops=bits, **quantities)
-
-
-def through_windows() -> Iterator[tuple[Case, dict]]:
-    """Each a case, and what the document gives, by the name of the
-    quantity."""
-    yield from of_channel()
-    yield of_end_1('P7', LINE, [ZERO] * 3, [ZERO, (0, 1000), ZERO],
-                   **{'3I2, real': 866, '3I2, imaginary': -500})
-    # With these voltages 3V1 is the Vp of P12, and with k=0 loop AG has its I.
-    # No other loop asserts at these reaches.
+def p12_and_p13() -> Iterator[tuple[Case, dict]]:
+    """With these voltages 3V1 is the Vp of P12, and with k=0 loop AG has its
+    I. No other loop asserts at these reaches."""
     voltages = [(500, 0), (-500, 0), (-500, 0)]
     for name, current, r, bits in (
             ('P12', -1000, 500, 1), ('P12', -1000, 499, 0),
             ('P13', 1000, 500, 0), ('P13', 1000, 2000, 0)):
         line = LINE._replace(k=ZERO, r=r)
-        yield of_end_1(f'{name}, r={r}', line, voltages,
-                       [(0, current), ZERO, ZERO], loops=bits)
+        yield (exact_case(f'{name}, r={r}', line, voltages,
+                          [(0, current), ZERO, ZERO]), {'loops': bits})
+
+
+def p14() -> Iterator[tuple[Case, dict]]:
     for (zf, pickup), expected in P14.items():
         line = LINE._replace(zf=zf, pickup=pickup)
-        yield of_end_1(f'P14, zf={zf}, pickup {pickup}', line,
-                       [(0, -50), ZERO, ZERO], [(100, 0), ZERO, ZERO],
-                       direction=expected, pickup=int(pickup == 100))
+        yield (exact_case(f'P14, zf={zf}, pickup {pickup}', line,
+                          [(0, -50), ZERO, ZERO], [(100, 0), ZERO, ZERO]),
+               {'direction': expected})
+
+
+def worked_example() -> Iterator[tuple[Case, dict]]:
+    for r, bits in ((850, 1), (600, 1), (599, 0)):
+        line = LINE._replace(r=r, pickup=50)
+        yield (exact_case(f'the example worked by hand, r={r}', line,
+                          *EXAMPLE), {'loops': bits, 'direction': 1})
+
+
+def of_end_1() -> Iterator[tuple[Case, dict]]:
+    """Each a case, and what the document gives for its decision."""
+    yield exact_case('P7', LINE, [ZERO] * 3, [ZERO, (0, 1000), ZERO]), {}
+    yield from p12_and_p13()
+    yield from p14()
     yield from worked_example()
-    yield of_end_1('Vp=0', LINE, [ZERO] * 3, [(0, -1000), ZERO, (7, 9)],
-                   loops=0)
+    yield exact_case('Vp=0', LINE, [ZERO] * 3,
+                     [(0, -1000), ZERO, (7, 9)]), {'loops': 0}

@@ -181,15 +181,6 @@ def phasors(numbers: list[int], ends: int) -> list[Phasor]:
             for index in range(channels(ends))]
 
 
-def total(numbers: list[int], ends: int, phase: int) -> Phasor:
-    # "Per phase, the differential is the sum of the N phasors"
-    result = Phasor(0, 0)
-    for end in range(ends):
-        index = 3 + 3 * end + phase
-        result = plus(result, phasor(channel(numbers, ends, index)))
-    return result
-
-
 # ---- Sequence quantities and direction (source document 002) ---------------
 
 # "a is -1/2 + j root3/2, taken as (-8192, 14189) over 16384; a² is its
@@ -312,16 +303,13 @@ def loop_bits(line: Line, r: int, v: list[Phasor], i: list[Phasor]) -> int:
 
 # ---- One window ------------------------------------------------------------
 
-def measure(record: bytes, numbers: list[int],
-            r: Optional[int] = None) -> dict:
-    """Everything above for one window, at reach r or at the record's own.
+def measure(record: bytes, numbers: list[int]) -> dict:
+    """Everything above for one window.
 
     A window with a missing sample is refused; its other entries are those of
     -32768 taken as a number. 'line' and 'numbers' are what was measured.
     """
     given = line(record)
-    if r is not None:
-        given = given._replace(r=r)
     by_channel = phasors(numbers, given.ends)
     # "Only end 1 is used, here and in the loops."
     v, i = by_channel[0:3], by_channel[3:6]
@@ -331,7 +319,6 @@ def measure(record: bytes, numbers: list[int],
         'numbers': numbers,
         'missing': first_missing(numbers),
         'phasors': by_channel,
-        'totals': [total(numbers, given.ends, phase) for phase in range(3)],
         'v1': positive(*v),
         'v2': v2,
         'i2': i2,

@@ -81,9 +81,6 @@ def seen(result: dict) -> set[str]:
 
 # ---- What all of them should show ------------------------------------------
 
-JUST_ENOUGH = '{}: also at the reach that is just enough, and one less'
-
-
 def wanted() -> list[str]:
     def all_of(pattern: str, *choices) -> list[str]:
         return [pattern.format(*one) for one in itertools.product(*choices)]
@@ -98,7 +95,6 @@ def wanted() -> list[str]:
         *all_of('phasor, {}: one below a tie {} zero', parts, above_below),
         *all_of('{}: m {} 0, 1000000 n {} r m', BITS, sides, sides),
         *all_of('{}: {}', BITS, (True, False)),
-        *all_of(JUST_ENOUGH, BITS),
         *all_of('|3I2|² {} pickup²', sides),
         *all_of('reaches: {}', (True, False)),
         *all_of('direction {}, reaches: True', (0, 1, 2)),

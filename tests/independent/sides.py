@@ -1,6 +1,6 @@
 """What a window shows of the percentage differential at a slope and a pickup:
-the sides of each rule, exact and rounded roots, ties, ends; and what all of
-them together should."""
+the sides of each rule, exact and rounded roots, ties; and what all of them
+together should."""
 import itertools
 from typing import Iterator
 
@@ -114,7 +114,7 @@ def together(phases: list[Phase], K: int, pickup: int) -> str:
 
 def shown(phases: list[Phase], tries: list[tuple[int, int]]) -> set[str]:
     """What by_phase() of a window shows, at each of these (K, pickup)."""
-    found = {f'ends: {len(phases[0].sums)}'}
+    found = set()
     for phase in phases:
         found.update(roots(phase), sizes(phase), ties(phase), order(phase))
     for K, pickup in tries:
@@ -133,7 +133,6 @@ def wanted() -> list[str]:
 
     sides, above_below = '<=>', ('above', 'below')
     return [
-        *all_of('ends: {}', ENDS),
         *all_of('phases operating: {}{}{}', ('', 'a'), ('', 'b'), ('', 'c')),
         *all_of('phase {}: s {} pickup², 40960000 s {} (K U)²', NAMES, sides,
                 sides),

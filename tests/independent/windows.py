@@ -11,10 +11,10 @@ from typing import Iterator
 
 from building import (ENDS, HIGH, LARGEST, LINE, LOW, Case, any_line, corners,
                       exact_case, largest, one_channel, pulse, record, wave,
-                      window)
+                      window, without)
 from faults import FAULTS, Place, volts_and_amps
-from measuring import (COSINES, MISSING, Line, Phasor, asserts, channels,
-                       direction, length, loops, n_and_m, negative, phasors,
+from measuring import (COSINES, Line, Phasor, asserts, channels, direction,
+                       length, loops, n_and_m, negative, phasors,
                        reaches_pickup)
 
 # ---- Small windows: ties of the rounding by 131072 -------------------------
@@ -111,10 +111,8 @@ def any_numbers(rng: random.Random) -> Iterator[Case]:
 
 
 def with_missing(case: Case, places: list[int]) -> Case:
-    numbers = [MISSING if at in places else number
-               for at, number in enumerate(case.numbers)]
     return Case(f'{case.label}, {len(places)} missing from {places[0]}',
-                case.line, numbers)
+                case.line, without(case.numbers, places))
 
 
 def missing() -> Iterator[Case]:
@@ -319,14 +317,14 @@ def any_edge(rng: random.Random) -> Iterator[Case]:
     return edges(kind(rng))
 
 
-def just_enough(line: Line, by_channel: list[Phasor]) -> dict[str, int]:
-    """The least reach at which a loop asserts, where it does not at 1 but at
-    2000."""
-    found = {}
+def just_enough(line: Line, by_channel: list[Phasor]) -> set[int]:
+    """The least reach at which each loop asserts, where it does not at 1 but
+    at 2000."""
+    found = set()
     for loop in loops(line, by_channel[0:3], by_channel[3:6]):
         n, m = n_and_m(line.Z, loop)
         if m > 0 and LOW[10] * m < 1000000 * n <= HIGH[10] * m:
-            found[loop.name] = -(-1000000 * n // m)
+            found.add(-(-1000000 * n // m))
     return found
 
 

@@ -1,17 +1,28 @@
-/* The three calls from C, in named cases: every answer, every buffer, and the bytes around each lent slice. */
+/* The four calls from C, in named cases: every answer, every buffer, and the bytes around each lent slice. */
 #include <stdio.h>
 #include <string.h>
 
 #include "gorsepetal.h"
 
-enum { RECORD = GORSEPETAL_RECORD_LENGTH, STATE = GORSEPETAL_STATE_LENGTH, ROOM = 80, GUARD = 8, AROUND = 0xA5, LATER = 0x5A };
+enum {
+  RECORD = GORSEPETAL_RECORD_LENGTH,
+  STATE = GORSEPETAL_STATE_LENGTH,
+  DECISION = GORSEPETAL_DECISION_LENGTH,
+  WINDOW = GORSEPETAL_WINDOW_BYTES(2),  /* of the good record */
+  LONGEST = GORSEPETAL_WINDOW_BYTES(6), /* of any record */
+  BESIDE = 2 * 9,                       /* a frame of two ends */
+  ROOM = LONGEST + BESIDE,
+  GUARD = 8,
+  AROUND = 0xA5,
+  LATER = 0x5A,
+};
 
 /* The record of document 01, "Window program". */
 static const uint8_t good[RECORD] = {
     0x00, 0x02, 0x00, 0x0F, 0x00, 0x64, 0x00, 0x00, 0x03, 0xE8, 0x03, 0x52, 0x02, 0x9B, 0x00, 0x00,
     0x00, 0x00, 0x03, 0xE8, 0xFE, 0xD4, 0x01, 0x2C, 0x00, 0x32, 0x00, 0x00, 0x00, 0x00, 0x00, 0x00,
 };
-static const uint8_t zeros[RECORD];
+static const uint8_t zeros[LONGEST];
 static uint8_t other[RECORD]; /* good as well, with slope 50 */
 static uint8_t bad[RECORD];   /* slope 0: refused by propose */
 
@@ -20,7 +31,7 @@ struct lent {
   uint8_t all[GUARD + ROOM + GUARD];
   size_t length;
 };
-static struct lent state, entry, out;
+static struct lent state, entry, samples, out;
 
 static const char *case_name;
 static int checks, faults;
@@ -38,6 +49,11 @@ static void check_bytes(const char *what, const uint8_t *got, const uint8_t *wan
   if (memcmp(got, wanted, length) == 0) return;
   faults++;
   printf("FAIL %s, %s: other bytes than wanted\n", case_name, what);
+}
+
+static void put(uint8_t *bytes, int at, int number) {
+  bytes[at] = (uint8_t)((unsigned)number >> 8);
+  bytes[at + 1] = (uint8_t)number;
 }
 
 static uint64_t refused(uint64_t number, uint64_t place) { return 256 * place + number; }
@@ -99,6 +115,20 @@ static uint64_t read_back(size_t length) {
   return answer;
 }
 
+/* Lends the first bytes of a window to decide, with a new buffer of this length; the state, the window and all guards must stay. */
+static uint64_t decide(const uint8_t *bytes, size_t length, size_t room) {
+  struct lent relay = state, window;
+  lend(&samples, bytes, length);
+  window = samples;
+  lend_out(room);
+  uint64_t answer =
+      gorsepetal_decide(state.all + GUARD, state.length, samples.all + GUARD, samples.length, out.all + GUARD, out.length);
+  check_bytes("state", state.all, relay.all, sizeof state.all);
+  check_bytes("samples", samples.all, window.all, sizeof samples.all);
+  guards_kept("around out", &out);
+  return answer;
+}
+
 static void out_untouched(void) {
   uint8_t bytes[ROOM];
   memset(bytes, LATER, sizeof bytes);
@@ -151,19 +181,19 @@ static void entry_of_another_length(void) {
   memcpy(bytes, good, RECORD);
   for (size_t k = 0; k < sizeof lengths / sizeof *lengths; k++) {
     lend_state(other, good);
-    check("propose", propose(bytes, lengths[k]), GORSEPETAL_ENTRY_LENGTH);
+    check("propose", propose(bytes, lengths[k]), GORSEPETAL_OTHER_ENTRY_LENGTH);
     state_is(other, zeros);
     lend_state(other, good);
-    check("confirm", confirm(bytes, lengths[k]), GORSEPETAL_ENTRY_LENGTH);
+    check("confirm", confirm(bytes, lengths[k]), GORSEPETAL_OTHER_ENTRY_LENGTH);
     state_is(other, zeros);
-    check("confirm with nothing pending", confirm(bytes, lengths[k]), GORSEPETAL_ENTRY_LENGTH);
+    check("confirm with nothing pending", confirm(bytes, lengths[k]), GORSEPETAL_OTHER_ENTRY_LENGTH);
     state_is(other, zeros);
   }
 }
 
 static void state_of_another_length(void) {
   static const size_t lengths[] = {0, 1, 32, 63, 65, 80};
-  uint8_t bytes[ROOM] = {0};
+  uint8_t bytes[ROOM] = {0}, window[WINDOW] = {0x80, 0x00};
   memcpy(bytes, good, RECORD);
   memcpy(bytes + RECORD, good, RECORD);
   for (size_t k = 0; k < sizeof lengths / sizeof *lengths; k++) {
@@ -175,6 +205,10 @@ static void state_of_another_length(void) {
     check("read back", read_back(RECORD), GORSEPETAL_NO_RELAY);
     out_untouched();
     check("read back, no room", read_back(0), GORSEPETAL_NO_RELAY);
+    check("decide", decide(zeros, WINDOW, DECISION), GORSEPETAL_NO_RELAY);
+    out_untouched();
+    check("decide, a sample missing", decide(window, WINDOW, DECISION), GORSEPETAL_NO_RELAY);
+    check("decide, nothing right", decide(zeros, 1, 0), GORSEPETAL_NO_RELAY);
     check_bytes("state", state.all + GUARD, bytes, lengths[k]);
   }
 }
@@ -198,8 +232,7 @@ static void edges_of_each_field(void) {
   for (size_t k = 0; k < sizeof edges / sizeof *edges; k++) {
     uint8_t record[RECORD];
     memcpy(record, good, RECORD);
-    record[edges[k].at] = (uint8_t)((unsigned)edges[k].number >> 8);
-    record[edges[k].at + 1] = (uint8_t)edges[k].number;
+    put(record, edges[k].at, edges[k].number);
     int taken = edges[k].fault < 0;
     lend_state(other, good);
     check("propose", propose(record, RECORD), taken ? GORSEPETAL_DONE : refused(GORSEPETAL_OUT_OF_RANGE, (uint64_t)edges[k].fault));
@@ -238,6 +271,138 @@ static void room_to_read_back(void) {
   check("no settings and no room", read_back(0), GORSEPETAL_NO_SETTINGS);
 }
 
+/* The example of document 01: 288 zero bytes, by the record above. */
+static void quiet_window(void) {
+  lend_state(good, zeros);
+  check("decide", decide(zeros, WINDOW, DECISION), GORSEPETAL_DONE);
+  check_bytes("decision", out.all + GUARD, zeros, DECISION);
+}
+
+static void decide_by_the_record_in_force(void) {
+  lend_state(zeros, good);
+  check("only pending", decide(zeros, WINDOW, DECISION), GORSEPETAL_NO_SETTINGS);
+  out_untouched();
+  check("confirm", confirm(good, RECORD), GORSEPETAL_DONE);
+  check("in force", decide(zeros, WINDOW, DECISION), GORSEPETAL_DONE);
+  lend_state(bad, good);
+  check("in force, but out of range", decide(zeros, WINDOW, DECISION), GORSEPETAL_NO_SETTINGS);
+  out_untouched();
+}
+
+/* A window with a missing sample: everything that can be wrong is, and then one thing less at a time. */
+static void refusals_of_decide_in_order(void) {
+  uint8_t window[WINDOW] = {0};
+  window[2 * 34] = 0x80; /* Ib of end 2 in frame 3 */
+  lend_state(zeros, good);
+  check("no settings, another length, no room", decide(window, WINDOW - 2, DECISION - 1), GORSEPETAL_NO_SETTINGS);
+  out_untouched();
+  lend_state(good, zeros);
+  check("another length, no room", decide(window, WINDOW - 2, DECISION - 1), GORSEPETAL_OTHER_WINDOW_LENGTH);
+  out_untouched();
+  check("no room", decide(window, WINDOW, DECISION - 1), GORSEPETAL_NO_ROOM);
+  out_untouched();
+  check("a sample missing", decide(window, WINDOW, DECISION), refused(GORSEPETAL_MISSING_SAMPLE, 34));
+  out_untouched();
+  window[2 * 34] = 0;
+  check("nothing wrong", decide(window, WINDOW, DECISION), GORSEPETAL_DONE);
+}
+
+static void window_of_another_length(void) {
+  uint8_t window[ROOM] = {0};
+  lend_state(good, zeros);
+  for (size_t length = 0; length <= ROOM; length++) {
+    int right = length == WINDOW;
+    check("decide", decide(window, length, DECISION), right ? GORSEPETAL_DONE : GORSEPETAL_OTHER_WINDOW_LENGTH);
+    if (!right) out_untouched();
+  }
+}
+
+static void window_of_each_number_of_ends(void) {
+  for (uint8_t ends = 2; ends <= 6; ends++)
+    for (uint8_t others = 2; others <= 6; others++) {
+      uint8_t record[RECORD];
+      memcpy(record, good, RECORD);
+      record[1] = ends;
+      lend_state(record, zeros);
+      check("decide", decide(zeros, (size_t)GORSEPETAL_WINDOW_BYTES(others), DECISION),
+            ends == others ? GORSEPETAL_DONE : GORSEPETAL_OTHER_WINDOW_LENGTH);
+    }
+}
+
+static void missing_sample_at_each_place(void) {
+  lend_state(good, zeros);
+  for (int place = 0; place < WINDOW / 2; place++) {
+    uint8_t window[WINDOW] = {0};
+    window[2 * place] = 0x80;
+    window[WINDOW - 2] = 0x80; /* the last is missing too: the first is named */
+    check("decide", decide(window, WINDOW, DECISION), refused(GORSEPETAL_MISSING_SAMPLE, (uint64_t)place));
+    out_untouched();
+  }
+}
+
+static void room_to_decide(void) {
+  lend_state(good, other);
+  for (size_t room = 0; room < DECISION; room++) {
+    check("too little room", decide(zeros, WINDOW, room), GORSEPETAL_NO_ROOM);
+    out_untouched();
+  }
+  for (size_t room = DECISION; room <= ROOM; room++) {
+    uint8_t later[ROOM];
+    memset(later, LATER, sizeof later);
+    check("room", decide(zeros, WINDOW, room), GORSEPETAL_DONE);
+    check_bytes("decision", out.all + GUARD, zeros, DECISION);
+    check_bytes("later bytes", out.all + GUARD + DECISION, later, room - DECISION);
+  }
+}
+
+/* A channel of a window of two ends with exactly this phasor, in counts: Va, Vb, Vc are 0 to 2, the currents 3 to 5 and 6 to 8. */
+static void phasor(uint8_t *window, int channel, int re, int im) {
+  put(window, 2 * channel, 8 * re);
+  put(window, 2 * (9 * 4 + channel), -8 * im);
+}
+
+/* 100 counts into the line at end 1, 40 out of it at end 2, on each phase in turn: U is 64 * 100 + 64 * 40 = 8960, s is
+** 60 * 60 = 3600, the root of 4096 * 3600 is 64 * 60 = 3840. 15 * 8960 is below 100 * 3840, and 50 * 8960 is not. */
+static void paper_mill(void) {
+  for (int slope = 15; slope <= 50; slope += 35)
+    for (int phase = 0; phase < 3; phase++) {
+      uint8_t record[RECORD], window[WINDOW] = {0}, wanted[DECISION] = {0};
+      memcpy(record, good, RECORD);
+      record[3] = (uint8_t)slope;
+      record[5] = 60; /* pickup */
+      phasor(window, 3 + phase, 100, 0);
+      phasor(window, 6 + phase, -40, 0);
+      wanted[0] = slope == 15;
+      wanted[1] = slope == 15 ? (uint8_t)(1 << phase) : 0;
+      put(wanted, 8 + 4 * phase + 2, 8960);
+      put(wanted, 20 + 4 * phase + 2, 3840);
+      lend_state(record, zeros);
+      check(slope == 15 ? "slope 15" : "slope 50", decide(window, WINDOW, DECISION), GORSEPETAL_DONE);
+      check_bytes("decision", out.all + GUARD, wanted, DECISION);
+    }
+}
+
+/* The fault that docs/HAND-CHECKS.md works out: forward, and loop AG asserts from a reach of 600. The current of end 1 leaves at
+** end 2, so that no phase operates: U is 2 * 64 * 1000 = 128000, 1F400 in hexadecimal. */
+static void fault_in_front(void) {
+  static const int reaches[] = {850, 600, 599};
+  uint8_t window[WINDOW] = {0};
+  phasor(window, 0, 1000, 0);
+  phasor(window, 1, -1000, -1732);
+  phasor(window, 2, -1000, 1732);
+  phasor(window, 3, 0, -1000);
+  phasor(window, 6, 0, 1000);
+  for (size_t k = 0; k < sizeof reaches / sizeof *reaches; k++) {
+    uint8_t record[RECORD], wanted[DECISION] = {0, 0, 0, 1, 0, 0, 0, 0, 0, 0x01, 0xF4, 0x00};
+    memcpy(record, good, RECORD);
+    put(record, 10, reaches[k]);
+    wanted[0] = wanted[2] = reaches[k] >= 600;
+    lend_state(record, zeros);
+    check("decide", decide(window, WINDOW, DECISION), GORSEPETAL_DONE);
+    check_bytes("decision", out.all + GUARD, wanted, DECISION);
+  }
+}
+
 static const struct {
   const char *name;
   void (*run)(void);
@@ -251,6 +416,15 @@ static const struct {
     {"edges of each field", edges_of_each_field},
     {"stored record out of range", stored_record_out_of_range},
     {"room to read back", room_to_read_back},
+    {"quiet window", quiet_window},
+    {"decide by the record in force", decide_by_the_record_in_force},
+    {"refusals of decide in order", refusals_of_decide_in_order},
+    {"window of another length", window_of_another_length},
+    {"window of each number of ends", window_of_each_number_of_ends},
+    {"missing sample at each place", missing_sample_at_each_place},
+    {"room to decide", room_to_decide},
+    {"paper mill", paper_mill},
+    {"fault in front", fault_in_front},
 };
 
 int main(void) {
