@@ -20,6 +20,7 @@ from program import run  # noqa: E402
 EXAMPLE = os.path.join('crates', 'window')
 NAMED = os.path.join('crates', 'window_cases')
 DATA = os.path.join(NAMED, 'data')
+NAMES = os.path.join(DATA, 'names')  # the order in which they are run
 
 
 def printed() -> bytes:
@@ -35,6 +36,8 @@ def wanted() -> dict[str, bytes]:
              os.path.join(EXAMPLE, 'stdout'): run(example)}
     for name, data in program_cases.INPUTS.items():
         files[os.path.join(DATA, name)] = data
+    files[NAMES] = ''.join(
+        f'{name}\n' for name in program_cases.INPUTS).encode('ascii')
     files[os.path.join(NAMED, 'stdout')] = printed()
     for name, data in program_cases.EXAMPLES.items():
         files[os.path.join('examples', f'{name}.bin')] = data

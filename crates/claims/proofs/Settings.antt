@@ -1,34 +1,33 @@
 -- What the desk may rely on, call by call.
 use Prim.Native.Nat.{ℕ, _+_, _*_}
-use mathlib.Core.Path.{_≡_, refl, sym, ap, _∙_}
+use mathlib.Core.Path.{_≡_, refl, sym, ap, subst, _∙_}
 use mathlib.Core.List.{List, _++_}
 use mathlib.Core.Bool.{Bool, true, false, cond}
 use native.Mathlib.Omega.{arith}
 use borrow.Author.Tests.{eq-eqb, ne-eqb, le-leb, eqb-true}
 use lib.ListN.{length, take, drop}
 use lib.Seq.{take-at, drop-at}
-use lib.Dec.{eqb, leb}
-use Rattle.answers.specs.declared.Answer.the-variants.{Done, NoSettings, WindowLength, NoRoom, EntryLength, NothingPending, NoRelay}
-use Rattle.answers.specs.Answers.{givenBack, isDone, ifDone}
+use Rattle.answers.specs.declared.Answer.the-variants.{NothingPending, NoRelay}
+use Rattle.answers.specs.Answers.{givenBack}
 use Rattle.answers.proofs.Numbers.{zero-is, not-zero-refused}
-use Rattle.lent.specs.declared.Compared.{Compared}
-use Rattle.lent.specs.declared.Compared.the-variants.{Same, Differ}
-use Rattle.lent.specs.Lent.{compared}
-use Rattle.lent.proofs.Differences.{compared-first, compared-same, compared-self}
-use Rattle.samples.specs.declared.Found.{Found}
-use Rattle.samples.specs.declared.Found.the-variants.{Nothing, At}
+use Rattle.lent.specs.Lent.{FirstAt}
+use Rattle.lent.proofs.Differences.{compared-same, compared-self}
+use Rattle.samples.specs.declared.Found.the-variants.{At}
 use Rattle.samples.specs.Window.{channels, numbersOf, firstMissing}
-use Rattle.samples.proofs.Missing.{first-in-order}
+use Rattle.samples.proofs.Bytes.{held}
+use Rattle.samples.proofs.Missing.{is-first, first-in-order}
 use Rattle.settings.specs.Fields.{ends}
 use Rattle.settings.proofs.Good.{in-ranges-good}
 use Rattle.entry.specs.Pair.{nothing}
-use Rattle.entry.specs.Entry.{ofCompare, proposeAnswer, confirmAnswer}
+use Rattle.entry.specs.Entry.{proposeAnswer, confirmAnswer}
 use Rattle.entry.proofs.Done.{confirm-done, present-done}
-use Rattle.decision.specs.Decide.{ofFound}
 use Rattle.gorsepetal.specs.State.{stateLength, settingsOf}
-use Rattle.gorsepetal.specs.Calls.{isRelay, ofCheck, verdict, Accepted, standing, Confirmed, readBackAnswer, fitsBytes, decideAnswer}
+use Rattle.gorsepetal.specs.Calls.{isRelay, ofCheck, verdict, Accepted, standing, Confirmed, readBackAnswer, lengthInForce, fitsBytes, decideAnswer}
 use Rattle.gorsepetal.proofs.Good.{in-range}
 use Rattle.claims.specs.Settings.{AcceptedExactly, FreshHasNothing, MissingInOrder, GoodComesIntoForce, ConfirmedReadsBack, RefusedProposal, RefusedConfirmation, NoThirdEntry, DiffersAtFirst, RefusedReadBack, RefusedDecide, NoRelayNoChange}
+use Rattle.claims.specs.Table.{ConfirmRow, DecideRow}
+use Rattle.claims.specs.Table as row
+use Rattle.claims.proofs.Table.{confirm-table, decide-table}
 use Rattle.claims.proofs.Relay.{sized, propose-left, confirm-left}
 use Rattle.claims.proofs.Demand1.{blank}
 
@@ -70,40 +69,31 @@ good-comes-into-force s e n m s₁ s₂ l le good c c′ =
       ap (λ p. p .pending) (k′ .pair),
     )
 
--- an answer of 8 comes from the comparison alone, with its place; y says whether a record is pending
-answer-8 :
-    (r b y : Bool) (d : Compared) (k : ℕ) →
-    256 * k + 8 ≡ givenBack (cond r (cond b (ifDone (cond y Done NothingPending) (ofCompare d) (cond y Done NothingPending)) EntryLength) NoRelay) → d ≡ Differ k
-answer-8 true true true Same k z = let x : ⊥ = omega arith in absurd x
-answer-8 true true true (Differ i) k z = ap Differ (omega arith)
-answer-8 true true false d k z = let x : ⊥ = omega arith in absurd x
-answer-8 true false y d k z = let x : ⊥ = omega arith in absurd x
-answer-8 false b y d k z = let x : ⊥ = omega arith in absurd x
+-- an answer of 8 is in its row, with its place
+row-8 : (s e : List ℕ) (n k : ℕ) → ConfirmRow s e n → n ≡ 256 * k + 8 → FirstAt (settingsOf s .pending) e k
+row-8 s e n k (row.ConfirmRow.no-relay l) z = absurd (omega arith)
+row-8 s e n k (row.ConfirmRow.entry-length l h) z = absurd (omega arith)
+row-8 s e n k (row.ConfirmRow.nothing-pending l h f) z = absurd (omega arith)
+row-8 s e n k (row.ConfirmRow.differs l h g i f) z = let same : i ≡ k = omega arith in subst (FirstAt (settingsOf s .pending) e) same f
+row-8 s e n k (row.ConfirmRow.done l h g p) z = absurd (omega arith)
 
 pub differs-at-first : DiffersAtFirst
-differs-at-first s e k s₁ c =
-    let p = settingsOf s .pending in
-    let first = compared-first k p e (answer-8 (isRelay s) (eqb (length e) 32) (isDone (verdict p)) (compared p e) k (c .given)) in
-    (first .before, first .there)
+differs-at-first s e k s₁ c = row-8 s e _ k (confirm-table s e _ s₁ c _ .0 refl) refl
 
--- an answer of 4 comes from the search alone, with its place
-answer-4 :
-    (a y f m : Bool) (x : Found) (k : ℕ) →
-    256 * k + 4 ≡ givenBack (ifDone (cond a (cond y Done NoSettings) NoRelay) (cond f (cond m (ofFound x) NoRoom) WindowLength) (cond a (cond y Done NoSettings) NoRelay))
-    → x ≡ At k
-answer-4 false y f m x k z = absurd (omega arith)
-answer-4 true false f m x k z = absurd (omega arith)
-answer-4 true true false m x k z = absurd (omega arith)
-answer-4 true true true false x k z = absurd (omega arith)
-answer-4 true true true true Nothing k z = absurd (omega arith)
-answer-4 true true true true (At i) k z = ap At (omega arith)
+-- and so is an answer of 4
+row-4 : (s b out : List ℕ) (n k : ℕ) → DecideRow s b out n → n ≡ 256 * k + 4 → firstMissing (numbersOf b) ≡ At k
+row-4 s b out n k (row.DecideRow.no-relay l) z = absurd (omega arith)
+row-4 s b out n k (row.DecideRow.no-settings l g) z = absurd (omega arith)
+row-4 s b out n k (row.DecideRow.window-length l g h) z = absurd (omega arith)
+row-4 s b out n k (row.DecideRow.no-room l g h q) z = absurd (omega arith)
+row-4 s b out n k (row.DecideRow.missing-sample l g h q i below there before) z =
+    let same : i ≡ k = omega arith in
+    sym (is-first (numbersOf b) (At i) (rw (held (lengthInForce s) b h) below, there, before)) ∙ ap At same
+row-4 s b out n k (row.DecideRow.done l g h q none) z = absurd (omega arith)
 
 pub missing-in-order : MissingInOrder
 missing-in-order s b out f c after l d =
-    let r = settingsOf s .force in
-    let m = channels (ends r) in
-    first-in-order m (numbersOf b) f c l
-    (answer-4 (isRelay s) (isDone (verdict r)) (fitsBytes s b) (leb 32 (length out)) (firstMissing (numbersOf b)) (f * m + c) (d .given))
+    first-in-order (channels (ends (settingsOf s .force))) (numbersOf b) f c l (row-4 s b out _ _ (decide-table s b out _ after d _ .0 refl) refl)
 
 pub no-relay-no-change : NoRelayNoChange
 no-relay-no-change s e out n after f =

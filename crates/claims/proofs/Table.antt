@@ -14,7 +14,7 @@ use Rattle.answers.proofs.Numbers.{done-is}
 use Rattle.lent.specs.declared.Compared.{Compared}
 use Rattle.lent.specs.declared.Compared.the-variants.{Same, Differ}
 use Rattle.lent.specs.Lent.{compared}
-use Rattle.lent.proofs.Differences.{compared-same, compared-self}
+use Rattle.lent.proofs.Differences.{compared-first, first-compared, compared-same, compared-self}
 use Rattle.samples.specs.declared.Found.{Found}
 use Rattle.samples.specs.declared.Found.the-variants.{Nothing, At}
 use Rattle.samples.specs.Window.{numbersOf, firstMissing}
@@ -91,7 +91,7 @@ module _ (s e : List ℕ) where
   confirm-row false b y d t u v w = row.ConfirmRow.no-relay (no-relay s t)
   confirm-row true false y d t u v w = row.ConfirmRow.entry-length (relay s t) (eqb-false _ _ u)
   confirm-row true true false d t u v w = row.ConfirmRow.nothing-pending (relay s t) (eqb-true _ _ u) (not-accepted _ v)
-  confirm-row true true true (Differ k) t u v w = row.ConfirmRow.differs (relay s t) (eqb-true _ _ u) (accepted _ v) k w
+  confirm-row true true true (Differ k) t u v w = row.ConfirmRow.differs (relay s t) (eqb-true _ _ u) (accepted _ v) k (compared-first k _ e w)
   confirm-row true true true Same t u v w =
       let l = relay s t in
       let h = eqb-true (length e) recordLength u in
@@ -102,7 +102,9 @@ module _ (s e : List ℕ) where
   row-confirm m (row.ConfirmRow.entry-length l h) = rw (eq-eqb (length s) stateLength l, ne-eqb (length e) recordLength h)
   row-confirm m (row.ConfirmRow.nothing-pending l h f) =
       rw (eq-eqb (length s) stateLength l, eq-eqb (length e) recordLength h, refused (settingsOf s .pending) f)
-  row-confirm m (row.ConfirmRow.differs l h g k d) = rw (eq-eqb (length s) stateLength l, eq-eqb (length e) recordLength h, g, d)
+  row-confirm m (row.ConfirmRow.differs l h g k d) =
+      let differ = first-compared k (settingsOf s .pending) e (sized s l .pending ∙ sym h) d in
+      rw (eq-eqb (length s) stateLength l, eq-eqb (length e) recordLength h, g, differ)
   row-confirm m (row.ConfirmRow.done l h g p) =
       rw (eq-eqb (length s) stateLength l, eq-eqb (length e) recordLength h, g, p, compared-self e)
 

@@ -3,8 +3,9 @@
 use Prim.Native.Nat.{ℕ, _+_, _*_, _≤_, _<_}
 use mathlib.Core.Path.{_≡_}
 use mathlib.Core.List.{List}
-use lib.ListN.{length, take, drop, getD}
+use lib.ListN.{length, take, drop}
 use Rattle.whole.specs.Exactly.{Exactly}
+use Rattle.lent.specs.Lent.{FirstAt}
 use Rattle.samples.specs.Window.{channels, numbersOf}
 use Rattle.samples.specs.Order.{FirstInOrder}
 use Rattle.settings.specs.Fields.{Ranges, ends}
@@ -55,8 +56,7 @@ NoThirdEntry =
 -- Refusal 8 is at the first differing offset: the entry and the pending record agree before it, and not there.
 abbrev pub DiffersAtFirst : Type 0
 DiffersAtFirst =
-    (s e : List ℕ) (k : ℕ) (s₁ : List ℕ) → Confirmed s e (256 * k + 8) s₁
-    → (take k (settingsOf s .pending) ≡ take k e) × (getD (settingsOf s .pending) k 0 ≡ getD e k 0 → ⊥)
+    (s e : List ℕ) (k : ℕ) (s₁ : List ℕ) → Confirmed s e (256 * k + 8) s₁ → FirstAt (settingsOf s .pending) e k
 
 -- Refusal 4 "names the first missing number in frame order, then channel order": channel c of frame f, where a frame has m channels.
 abbrev pub MissingInOrder : Type 0

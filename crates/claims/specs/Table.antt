@@ -5,8 +5,7 @@ use mathlib.Core.Path.{_≡_}
 use mathlib.Core.List.{List}
 use lib.ListN.{length}
 use Rattle.whole.specs.Exactly.{Exactly}
-use Rattle.lent.specs.declared.Compared.the-variants.{Differ}
-use Rattle.lent.specs.Lent.{compared}
+use Rattle.lent.specs.Lent.{FirstAt}
 use Rattle.samples.specs.Window.{numbersOf}
 use Rattle.samples.specs.Order.{Missing, Present}
 use Rattle.settings.specs.Table.{table}
@@ -30,7 +29,7 @@ pub data ConfirmRow (s e : List ℕ) : ℕ → Type 0 where
   nothing-pending : length s ≡ stateLength → length e ≡ recordLength → (Accepted (settingsOf s .pending) → ⊥) → ConfirmRow s e 7
   differs :
       length s ≡ stateLength → length e ≡ recordLength → Accepted (settingsOf s .pending)
-      → (k : ℕ) → compared (settingsOf s .pending) e ≡ Differ k → ConfirmRow s e (256 * k + 8)
+      → (k : ℕ) → FirstAt (settingsOf s .pending) e k → ConfirmRow s e (256 * k + 8)
   done : length s ≡ stateLength → length e ≡ recordLength → Accepted (settingsOf s .pending) → settingsOf s .pending ≡ e → ConfirmRow s e 0
 
 -- "Read-back: 1, 3."

@@ -1,14 +1,14 @@
 -- What a comparison's finding means: a difference lies inside and is the first; no difference is equality.
-use Prim.Native.Nat.{ℕ, suc, _+_, _-_, _<_, _≤_}
-use mathlib.Core.Path.{_≡_, refl, sym, ap₂}
+use Prim.Native.Nat.{ℕ, zero, suc, _+_, _-_, _<_, _≤_}
+use mathlib.Core.Path.{_≡_, refl, sym, ap, ap₂, _∙_}
 use mathlib.Core.List.{List, [], _∷_}
 use mathlib.Core.Bool.{Bool, true, false, cond}
 use native.Mathlib.Nat.{sub-zero}
 use native.Mathlib.Omega.{arith}
-use borrow.Author.Tests.{eq-eqb, eqb-true, eqb-false}
-use lib.ListN.{length, take, getD}
+use borrow.Author.Tests.{eq-eqb, ne-eqb, eqb-true, eqb-false}
+use lib.ListN.{length, take}
 use lib.Dec.{eqb}
-use Rattle.lent.specs.Lent.{differFrom, compared}
+use Rattle.lent.specs.Lent.{differFrom, compared, FirstAt}
 use Rattle.lent.specs.declared.Compared.{Compared}
 use Rattle.lent.specs.declared.Compared.the-variants.{Same, Differ}
 
@@ -34,11 +34,6 @@ compared-below n xs ys h = differ-below 0 n xs ys (omega arith)
 differ-not-same : (k : ℕ) → Differ k ≡ Same → ⊥
 differ-not-same k e = let z : _≡_ {A = ℕ} 0 1 = cc in omega arith
 
--- The first difference: two lists agree before a place, and not there.
-pub record FirstAt (xs ys : List ℕ) (k : ℕ) : Type 0 where
-  pub before : take k xs ≡ take k ys
-  pub there : getD xs k 0 ≡ getD ys k 0 → ⊥
-
 first-from : (j k : ℕ) (xs ys : List ℕ) → differFrom j xs ys ≡ Differ k → (j ≤ k) × FirstAt xs ys (k - j)
 unfolding differFrom
 first-from j k [] ys e = absurd (differ-not-same k (sym e))
@@ -60,6 +55,23 @@ first-from j k (x ∷ xs) (y ∷ ys) e = by-test (eqb x y) refl (λ d. first-fro
 pub compared-first : (k : ℕ) (xs ys : List ℕ) → compared xs ys ≡ Differ k → FirstAt xs ys k
 unfolding compared
 compared-first k xs ys e = rw (sub-zero k) at (first-from 0 k xs ys e .1)
+
+first-is : (j k : ℕ) (xs ys : List ℕ) → length xs ≡ length ys → FirstAt xs ys k → differFrom j xs ys ≡ Differ (j + k)
+unfolding differFrom
+first-is j k [] [] l f = absurd (f .there refl)
+first-is j k [] (y ∷ ys) l f = let z : ⊥ = omega arith in absurd z
+first-is j k (x ∷ xs) [] l f = let z : ⊥ = omega arith in absurd z
+first-is j zero (x ∷ xs) (y ∷ ys) l f = rw (ne-eqb x y (f .there)) (ap Differ (omega arith))
+first-is j (suc k) (x ∷ xs) (y ∷ ys) l f =
+    let before = f .before in
+    let heads : x ≡ y = cc in
+    let tails : take k xs ≡ take k ys = cc in
+    rw (eq-eqb x y heads) (first-is (suc j) k xs ys (omega arith) (record { before = tails; there = f .there }) ∙ ap Differ (omega arith))
+
+-- and the other way, for two lists of one length
+pub first-compared : (k : ℕ) (xs ys : List ℕ) → length xs ≡ length ys → FirstAt xs ys k → compared xs ys ≡ Differ k
+unfolding compared
+first-compared k xs ys l f = first-is 0 k xs ys l f ∙ ap Differ (omega arith)
 
 same-from : (j : ℕ) (xs ys : List ℕ) → length xs ≡ length ys → differFrom j xs ys ≡ Same → xs ≡ ys
 unfolding differFrom

@@ -1,9 +1,10 @@
 -- Document 01, "Decision record" and "Numbers given back": what is done to lent bytes. A part is written over, later bytes stay; and the
 -- first place at which two lists differ.
 use Prim.Native.Nat.{ℕ, suc, _+_}
+use mathlib.Core.Path.{_≡_}
 use mathlib.Core.List.{List, [], _∷_, _++_}
 use mathlib.Core.Bool.{cond}
-use lib.ListN.{length, take, drop}
+use lib.ListN.{length, take, drop, getD}
 use lib.Dec.{eqb}
 use Rattle.lent.specs.declared.Compared.{Compared}
 use Rattle.lent.specs.declared.Compared.the-variants.{Same, Differ}
@@ -21,3 +22,8 @@ differFrom k (x ∷ xs) (y ∷ ys) = cond (eqb x y) (differFrom (suc k) xs ys) (
 -- Refusal 8: the first differing offset of two records of one length.
 unfoldable pub compared : List ℕ → List ℕ → Compared
 compared xs ys = differFrom 0 xs ys
+
+-- What that means: the lists agree before k, and not there.
+pub record FirstAt (xs ys : List ℕ) (k : ℕ) : Type 0 where
+  pub before : take k xs ≡ take k ys
+  pub there : getD xs k 0 ≡ getD ys k 0 → ⊥

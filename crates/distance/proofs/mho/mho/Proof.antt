@@ -15,15 +15,15 @@ returns : tie.Need-returns
 unfolding mho
 returns c =
     let h = c .before .pre in
-    let positive = simp (rd (h .0) tt, rd (h .2) tt) at (c .if1 .taken) in
+    let positive = simp (rd (h .2) tt) at (c .if1 .taken) in
     simp (rd (h .0) tt, rd (h .1) tt, rd (h .2) tt, rd (mul (lit (pos 1000000)) (h .1)) tt, rd (mul (h .0) (h .2)) tt) (rw positive)
 
 returns-2 : tie.Need-returns-2
 unfolding mho
 returns-2 c =
     let h = c .before .pre in
-    let not-positive = simp (rd (h .0) tt, rd (h .2) tt) at (c .if1 .left) in
-    simp (rd (h .0) tt, rd (h .2) tt) (rw not-positive)
+    let not-positive = simp (rd (h .2) tt) at (c .if1 .left) in
+    simp (rd (h .2) tt) (rw not-positive)
 
 pub mho-spec : {M : Type 1} → statement M
 mho-spec = tie.close (tie.spec mul-result mul-result-2 returns returns-2)
