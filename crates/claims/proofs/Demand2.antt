@@ -11,7 +11,7 @@ use lib.ListN.{drop}
 use lib.Signed.{_<ℤ_}
 use Rattle.whole.specs.Exactly.{Exactly}
 use Rattle.whole.specs.Root.{floorRoot}
-use Rattle.whole.proofs.Bits.{Each, bits-tell, any-of}
+use Rattle.claims.proofs.Bits.{Each, bits-tell, any-of}
 use Rattle.samples.specs.Window.{numbersOf}
 use Rattle.settings.specs.Fields.{ends, slope, pickup, reach, forwardLimit, reverseLimit}
 use Rattle.distance.specs.declared.direction.Direction.{Direction}

@@ -11,7 +11,7 @@ use Rattle.whole.specs.Bits.{isSet, BitsTell, AnyOf}
 use Rattle.whole.specs.Round.{roundBy}
 use Rattle.whole.specs.Root.{floorRoot}
 use Rattle.whole.specs.Sum.{sumOf}
-use Rattle.whole.proofs.Bits.{bit-is, none-told}
+use Rattle.claims.proofs.Bits.{bit-is, none-told}
 use Rattle.plane.specs.Plane.{plus, rounded, dot, squaredMagnitude}
 use Rattle.phasors.specs.Sums.{withSample, sumTo, phasorOf}
 use Rattle.phasors.specs.Grid.{total}

@@ -1,4 +1,5 @@
 -- The proofs of the statements in specs/.
+pub mod Bits
 pub mod One
 pub mod Relay
 pub mod Table

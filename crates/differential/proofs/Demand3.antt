@@ -10,7 +10,7 @@ use lib.IntN.{pos, _*ℤ_}
 use lib.Signed.{_≤ℤ_, _<ℤ_}
 use Rattle.whole.proofs.Certificate.{quo, le!, lt!, le-times!, false!, g-le, g-lt, g-num, g-sq, _⊞_, _⊠_}
 use Rattle.whole.proofs.Order.{sq-<, le-ℤ, lt-ℤ, le-ℕ, lt-ℕ}
-use Rattle.whole.proofs.Triangle.{len-add, len-neg, len-scale, len-root}
+use Rattle.plane.proofs.Triangle.{len-add, len-neg, len-scale, len-root}
 use Rattle.plane.specs.declared.Phasor.{Phasor}
 use Rattle.plane.specs.Plane.{NearTo, Long, minus, scaled, dot, squared}
 use Rattle.plane.proofs.Laws.{squared-magnitude-is}
@@ -40,8 +40,8 @@ module _ {d c : ℕ} (corner : Corner d c) {x i : ℕ → Phasor} (near : (e : �
       let back = len-add (len-scale (pos 64) (g-num 64) (exact-high m T)) (len-neg (len-scale (pos m) (g-num m) (all-deviate corner near n))) in
       lt-ℕ
       (sq-< (pos (m * (d * (K * U)))) (pos (100 * R)) (g-num (100 * R))
-      (lt! (pos m ∷ pos d ∷ pos K ∷ pos U ∷ pos R ∷ S .re ∷ S .im ∷ T .re ∷ T .im ∷ [])
-      (g-num 10000 ⊠ g-le (back .square) ⊞ g-sq (pos (m * d)) ⊠ g-lt over ⊞ one ⊠ (one ⊞ g-num 2)) (search quo depth 40) tt))
+      (lt! (pos R ∷ pos m ∷ pos d ∷ pos K ∷ pos U ∷ S .re ∷ S .im ∷ T .re ∷ T .im ∷ [])
+      (g-num 10000 ⊠ g-le (back .square) ⊞ g-sq (pos (m * d)) ⊠ g-lt over ⊞ one ⊠ (one ⊞ g-num 2)) (search quo depth 40 fits 4000) tt))
 
   -- a differential not above the slope: nor is the exact one, but for c an end
   below-slope : 40960000 * square i n ≤ K * U * (K * U) → 64 * (100 * F m x n) ≤ m * d * (K * U) + 100 * m * (c * n)
@@ -58,8 +58,8 @@ module _ {d c : ℕ} (corner : Corner d c) {x i : ℕ → Phasor} (near : (e : �
       let back = len-add (len-scale (pos (m * d)) (g-num (m * d)) grid) (len-scale (pos (100 * m)) (g-num (100 * m)) (all-deviate corner near n)) in
       le-ℕ
       (len-root (pos (64 * (100 * f))) back
-      (le! (pos m ∷ pos d ∷ pos c ∷ pos n ∷ pos K ∷ pos U ∷ pos f ∷ S .re ∷ S .im ∷ T .re ∷ T .im ∷ [])
-      (g-num 40960000 ⊠ g-le (exact-low m T)) (search quo depth 40) tt))
+      (le! (pos f ∷ pos m ∷ pos d ∷ pos c ∷ pos n ∷ pos K ∷ pos U ∷ S .re ∷ S .im ∷ T .re ∷ T .im ∷ [])
+      (g-num 40960000 ⊠ g-le (exact-low m T)) (search quo depth 40 fits 2000) tt))
 
 -- ---- what is left is arithmetic of whole numbers; g is F + 1, and h is H
 

@@ -4,14 +4,15 @@
 use mathlib.Core.Path.{_≡_, refl, sym}
 use mathlib.Core.List.{[], _∷_}
 use Prim.Native.Nat.{ℕ, zero, suc, _+_, _*_, _/_, _≤_, _<_}
-use native.Mathlib.Omega.{arith}
-use lib.IntN.{pos, _*ℤ_}
+use native.Mathlib.Omega.{arith, by-contra}
+use lib.IntN.{ℤ, pos, _-ℤ_, _*ℤ_}
 use lib.Signed.{_≤ℤ_, _<ℤ_}
 use Rattle.whole.proofs.Certificate.{quo, le!, g-le, g-lt, g-num, g-sq, _⊞_, _⊠_}
 use Rattle.whole.proofs.Order.{le-ℤ, lt-ℤ, le-ℕ}
-use Rattle.whole.proofs.Triangle.{len-add, len-neg, len-scale, len-root}
-use Rattle.whole.proofs.Rounding.{round-error-sq}
-use Rattle.whole.proofs.Roots.{floorRoot-is, rootUp-is, rootUp-below}
+use Rattle.plane.proofs.Triangle.{len-add, len-neg, len-scale, len-root}
+use Rattle.whole.specs.Round.{Near}
+use Rattle.whole.specs.Root.{rootUp}
+use Rattle.whole.proofs.Roots.{floorRoot-is, rootUp-is}
 use Rattle.plane.specs.declared.Phasor.{Phasor}
 use Rattle.plane.specs.Plane.{NearTo, Long, minus, scaled, dot, squared, squaredMagnitude}
 use Rattle.plane.proofs.Laws.{squared-magnitude-is}
@@ -32,9 +33,13 @@ end-long i = record {
   square = le! (i .re ∷ i .im ∷ pos (endRestraint i) ∷ []) (g-le (end-reaches i)) (search quo depth 40) tt;
 }
 
+-- the number below a root rounded up has a square below its number
+root-least : (n v : ℕ) → rootUp n ≡ suc v → v * v < n
+root-least n v e = by-contra (suc (v * v)) n (λ k. omega (arith, rootUp-is n .least v (omega arith), e))
+
 end-least : (i : Phasor) (v : ℕ) → endRestraint i ≡ suc v → (pos v *ℤ pos v) <ℤ (pos 4096 *ℤ squared i)
 unfolding endRestraint
-end-least i v e = rw (sym (squared-magnitude-is i)) (lt-ℤ (rootUp-below (4096 * squaredMagnitude i) v e))
+end-least i v e = rw (sym (squared-magnitude-is i)) (lt-ℤ (root-least (4096 * squaredMagnitude i) v e))
 
 module _ (m : ℕ) (x : Phasor) where
   pub exact-low : (pos (exactMagnitude m x) *ℤ pos (exactMagnitude m x)) ≤ℤ (pos m *ℤ pos m *ℤ squared x)
@@ -59,6 +64,11 @@ pub record Corner (d c : ℕ) : Type 0 where
 abbrev pub deviation : ℕ → Phasor → Phasor → Phasor
 deviation d x i = scaled (pos 64) (minus x (scaled (pos d) i))
 
+-- rounding moves a number by at most half of d
+error-sq : {d : ℕ} {A y : ℤ} → Near d A y → ((A -ℤ pos d *ℤ y) *ℤ (A -ℤ pos d *ℤ y)) ≤ℤ (pos (d / 2) *ℤ pos (d / 2))
+error-sq {d} {A} {y} n =
+    le! (pos d ∷ pos (d / 2) ∷ A ∷ y ∷ []) (g-le (n .low) ⊠ g-le (n .high)) (search quo depth 40) tt
+
 module _ {d c : ℕ} (corner : Corner d c) {x i : Phasor} (near : NearTo d x i) where
   pub deviates : Long (deviation d x i) c
   unfolding scaled minus dot
@@ -66,7 +76,7 @@ module _ {d c : ℕ} (corner : Corner d c) {x i : Phasor} (near : NearTo d x i) 
     nonneg = g-num c;
     square =
         le! (pos d ∷ pos (d / 2) ∷ pos c ∷ x .re ∷ x .im ∷ i .re ∷ i .im ∷ [])
-        (g-num 4096 ⊠ (g-le (round-error-sq (near .real)) ⊞ g-le (round-error-sq (near .imag))) ⊞ g-le (le-ℤ (corner .reaches))) (search quo depth 40) tt;
+        (g-num 4096 ⊠ (g-le (error-sq (near .real)) ⊞ g-le (error-sq (near .imag))) ⊞ g-le (le-ℤ (corner .reaches))) (search quo depth 40) tt;
   }
 
   -- the exact magnitude is at most the corner above what the end adds to the restraint

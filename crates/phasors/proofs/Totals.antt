@@ -9,7 +9,7 @@ use lib.Dec.{le→leb}
 use lib.IntN.{ℤ, _+ℤ_, _-ℤ_, _*ℤ_}
 use Rattle.whole.specs.Sum.{sumOf}
 use Rattle.whole.proofs.Certificate.{quo, ring! }
-use Rattle.whole.proofs.Triangle.{len-zero, len-add}
+use Rattle.plane.proofs.Triangle.{len-zero, len-add}
 use Rattle.plane.specs.declared.Phasor.{Phasor}
 use Rattle.plane.specs.Plane.{Inside, AllInside, phasorSize, plus, minus, scaled, Long}
 use Rattle.plane.proofs.Bounds.{inside-plus, inside-wider}

@@ -1,15 +1,16 @@
 -- What the operations mean: Re(p q*) is the real part of that product, -j is the complex number (0, -1), a square is not negative, each
 -- component is rounded as document 01 says, and what |p|² is as a natural number.
-use mathlib.Core.Path.{_≡_, refl}
+use mathlib.Core.Path.{_≡_, refl, ap}
 use Prim.Native.Nat.{ℕ, _+_, _*_, _%_, _≤_}
+use native.Mathlib.Nat.{div-eq-of-lt}
+use native.Mathlib.Omega.{arith}
 use lib.Dec.{T, ltb, ltb→lt}
 use mathlib.Core.List.{[], _∷_}
 use lib.IntN.{pos, negℤ}
-use lib.Signed.{_≤ℤ_}
+use lib.Signed.{_≤ℤ_, yes-nonNeg, pos-natAbs}
 use Rattle.whole.proofs.Certificate.{quo, ring!, le!, g-sq, _⊞_}
-use Rattle.whole.specs.Round.{Rounded}
-use Rattle.whole.proofs.Rounding.{round-near, round-is, round-zero}
-use Rattle.whole.proofs.Size.{abs-is}
+use Rattle.whole.specs.Round.{Rounded, roundBy}
+use Rattle.whole.proofs.Rounding.{round-near, round-is}
 use Rattle.plane.specs.declared.Phasor.{Phasor}
 use Rattle.plane.specs.Plane.{Inside, NearTo, times, rounded, conjugate, minusJ, dot, squared, squaredMagnitude, zero}
 use Rattle.plane.proofs.Bounds.{within-dot}
@@ -43,8 +44,11 @@ times-zero p =
     pair re im
 
 pub rounded-zero : (d : ℕ) → T (ltb 0 d) → rounded d zero ≡ zero
-unfolding rounded
-rounded-zero d t = let z = round-zero d (ltb→lt 0 d t) in pair z z
+unfolding rounded roundBy
+rounded-zero d t =
+    let above = ltb→lt 0 d t in
+    let z : roundBy d (pos 0) ≡ pos 0 = ap pos (div-eq-of-lt (omega arith)) in
+    pair z z
 
 pub minus-j-zero : minusJ zero ≡ zero
 unfolding minusJ
@@ -64,7 +68,7 @@ rounded-near d t p = let above = ltb→lt 0 d t in record { real = round-near d 
 
 pub squared-magnitude-is : (p : Phasor) → pos (squaredMagnitude p) ≡ squared p
 unfolding squaredMagnitude
-squared-magnitude-is p = abs-is (squared-nonneg p)
+squared-magnitude-is p = pos-natAbs (squared p) (yes-nonNeg (squared-nonneg p))
 
 pub squared-magnitude-zero : squaredMagnitude zero ≡ 0
 unfolding squaredMagnitude dot

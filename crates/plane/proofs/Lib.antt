@@ -3,3 +3,4 @@ pub mod Bounds
 pub mod Made
 pub mod Products
 pub mod Laws
+pub mod Triangle

@@ -1,2 +1,3 @@
 -- Complex numbers with whole parts.
+pub mod Length
 pub mod Plane

@@ -2,7 +2,7 @@
 use Prim.Native.Nat.{ℕ}
 use lib.IntN.{ℤ, pos, negℤ, natAbs, _+ℤ_, _-ℤ_, _*ℤ_}
 use Rattle.whole.specs.Range.{Within}
-use Rattle.whole.specs.Length.{Len}
+use Rattle.plane.specs.Length.{Len}
 use Rattle.whole.specs.Round.{Near, roundBy}
 use Rattle.plane.specs.declared.Phasor.{Phasor}
 use Rattle.plane.specs.declared.Phases.{Phases}

@@ -2,12 +2,13 @@
 -- `search diff` reads an expression so, given one `let da = d-atom a in` for each unknown;
 -- `d-le`, `d-lt` and `d-eq` then prove a goal over ℤ by `omega`, and `of-le`, `of-lt` and `of-eq` hand it the facts.
 use mathlib.Core.Path.{_≡_, refl, ap}
+use mathlib.Core.Logic.{_↔_}
 use mathlib.Core.Bool.{Bool, true, false, not, cond}
 use Prim.Native.Nat.{ℕ, zero, suc, _+_, _*_, _-_, _≤_, _<_}
 use native.Mathlib.Omega.{arith}
 use lib.Dec.{T, ltb, ltb→lt, nltb→le, leb→le, le→leb, lt→ltb}
 use lib.IntN.{ℤ, pos, negsuc, negℤ, subℕ, _+ℤ_, _*ℤ_}
-use lib.Signed.{_≤ℤ_, _<ℤ_, leZ-yes, ltZ-yes}
+use lib.Signed.{_≤ℤ_, _<ℤ_}
 
 -- how far a number lies above zero, and how far below
 abbrev pub up : ℤ → ℕ
@@ -80,82 +81,52 @@ d-mul {a} {b} x y =
       is = omega (arith, mul-is a b, ap (λ t. t * y .plus) (x .is), ap (λ t. t * y .minus) (x .is), ap (λ t. up a * t) (y .is), ap (λ t. down a * t) (y .is));
     }
 
--- both sides of an equation or of an order
+-- both sides of an equation or of an order: p - m stands to q - n as p + n to q + m
 pub record Sides (a b : ℤ) : Type 0 where
-  pub left : Diff a
-  pub right : Diff b
+  pub lower : ℕ
+  pub upper : ℕ
+  pub is : up a + down b + upper ≡ up b + down a + lower
 
 abbrev pub d-sides : {a b : ℤ} → Diff a → Diff b → Sides a b
-d-sides x y = record { left = x; right = y }
+d-sides x y =
+    record { lower = x .plus + y .minus; upper = y .plus + x .minus; is = omega (arith, x .is, y .is) }
 
 pub ruleset diff = (d-pos, d-negsuc, d-neg, d-add, d-mul, d-sides)
 
--- p - m stands to q - n as p + n to q + m
-abbrev pub lower : {a b : ℤ} → Sides a b → ℕ
-lower k = k .left .plus + k .right .minus
+-- ---- goals and facts between whole numbers, as ones between natural numbers
 
-abbrev pub upper : {a b : ℤ} → Sides a b → ℕ
-upper k = k .right .plus + k .left .minus
+le-is : (x y : ℤ) → (x ≤ℤ y) ↔ (up x + down y ≤ up y + down x)
+le-is (pos a) (pos b) = omega (arith, leb→le, le→leb)
+le-is (pos a) (negsuc b) = omega (arith, leb→le, le→leb)
+le-is (negsuc a) (pos b) = omega (arith, leb→le, le→leb)
+le-is (negsuc a) (negsuc b) = omega (arith, leb→le, le→leb)
 
--- ---- a goal between whole numbers, from one between natural numbers
-
-le-in : (x y : ℤ) → up x + down y ≤ up y + down x → x ≤ℤ y
-le-in (pos a) (pos b) h = leZ-yes (le→leb a b (omega arith))
-le-in (pos a) (negsuc b) h = let z : ⊥ = omega arith in absurd z
-le-in (negsuc a) (pos b) h = leZ-yes tt
-le-in (negsuc a) (negsuc b) h = leZ-yes (le→leb b a (omega arith))
-
-lt-in : (x y : ℤ) → up x + down y < up y + down x → x <ℤ y
-lt-in (pos a) (pos b) h = ltZ-yes (lt→ltb a b (omega arith))
-lt-in (pos a) (negsuc b) h = let z : ⊥ = omega arith in absurd z
-lt-in (negsuc a) (pos b) h = ltZ-yes tt
-lt-in (negsuc a) (negsuc b) h = ltZ-yes (lt→ltb b a (omega arith))
+lt-is : (x y : ℤ) → (x <ℤ y) ↔ (up x + down y < up y + down x)
+lt-is (pos a) (pos b) = omega (arith, ltb→lt, lt→ltb)
+lt-is (pos a) (negsuc b) = omega (arith, ltb→lt, lt→ltb)
+lt-is (negsuc a) (pos b) = omega (arith, ltb→lt, lt→ltb)
+lt-is (negsuc a) (negsuc b) = omega (arith, ltb→lt, lt→ltb)
 
 eq-in : (x y : ℤ) → up x + down y ≡ up y + down x → x ≡ y
 eq-in (pos a) (pos b) e = ap pos (omega arith)
-eq-in (pos a) (negsuc b) e = let z : ⊥ = omega arith in absurd z
-eq-in (negsuc a) (pos b) e = let z : ⊥ = omega arith in absurd z
+eq-in (pos a) (negsuc b) e = absurd (omega arith)
+eq-in (negsuc a) (pos b) e = absurd (omega arith)
 eq-in (negsuc a) (negsuc b) e = ap negsuc (omega arith)
 
-pub d-le : {a b : ℤ} (k : Sides a b) → lower k ≤ upper k → a ≤ℤ b
-d-le {a} {b} k h = le-in a b (omega (arith, k .left .is, k .right .is))
+pub d-le : {a b : ℤ} (k : Sides a b) → k .lower ≤ k .upper → a ≤ℤ b
+d-le {a} {b} k h = le-is a b .1 (omega (arith, k .is))
 
-pub d-lt : {a b : ℤ} (k : Sides a b) → lower k < upper k → a <ℤ b
-d-lt {a} {b} k h = lt-in a b (omega (arith, k .left .is, k .right .is))
+pub d-lt : {a b : ℤ} (k : Sides a b) → k .lower < k .upper → a <ℤ b
+d-lt {a} {b} k h = lt-is a b .1 (omega (arith, k .is))
 
-pub d-eq : {a b : ℤ} (k : Sides a b) → lower k ≡ upper k → a ≡ b
-d-eq {a} {b} k h = eq-in a b (omega (arith, k .left .is, k .right .is))
+pub d-eq : {a b : ℤ} (k : Sides a b) → k .lower ≡ k .upper → a ≡ b
+d-eq {a} {b} k h = eq-in a b (omega (arith, k .is))
 
--- ---- a fact between whole numbers, as one between natural numbers
+pub of-le : {a b : ℤ} → a ≤ℤ b → (k : Sides a b) → k .lower ≤ k .upper
+of-le {a} {b} h k = omega (arith, k .is, le-is a b .0 h)
 
-le-out : (x y : ℤ) → x ≤ℤ y → up x + down y ≤ up y + down x
-le-out (pos a) (pos b) h = omega (arith, leb→le a b (h .le))
-le-out (pos a) (negsuc b) h = absurd (h .le)
-le-out (negsuc a) (pos b) h = omega arith
-le-out (negsuc a) (negsuc b) h = omega (arith, leb→le b a (h .le))
+pub of-lt : {a b : ℤ} → a <ℤ b → (k : Sides a b) → k .lower < k .upper
+of-lt {a} {b} h k = omega (arith, k .is, lt-is a b .0 h)
 
-lt-out : (x y : ℤ) → x <ℤ y → up x + down y < up y + down x
-lt-out (pos a) (pos b) h = omega (arith, ltb→lt a b (h .lt))
-lt-out (pos a) (negsuc b) h = absurd (h .lt)
-lt-out (negsuc a) (pos b) h = omega arith
-lt-out (negsuc a) (negsuc b) h = omega (arith, ltb→lt b a (h .lt))
-
-pub of-le : {a b : ℤ} → a ≤ℤ b → (k : Sides a b) → lower k ≤ upper k
-of-le {a} {b} h k = omega (arith, k .left .is, k .right .is, le-out a b h)
-
-pub of-lt : {a b : ℤ} → a <ℤ b → (k : Sides a b) → lower k < upper k
-of-lt {a} {b} h k = omega (arith, k .left .is, k .right .is, lt-out a b h)
-
-pub of-eq : {a b : ℤ} → a ≡ b → (k : Sides a b) → lower k ≡ upper k
-of-eq e k = omega (arith, k .left .is, k .right .is, ap up e, ap down e)
-
--- ---- the laws of a commutative ring that the library of ℤ lacks
-
-pub *ℤ-assoc : (a b c : ℤ) → (a *ℤ b) *ℤ c ≡ a *ℤ (b *ℤ c)
-*ℤ-assoc a b c = let da = d-atom a in let db = d-atom b in let dc = d-atom c in d-eq (search diff) (omega arith)
-
-pub *ℤ-add : (a b c : ℤ) → a *ℤ (b +ℤ c) ≡ a *ℤ b +ℤ a *ℤ c
-*ℤ-add a b c = let da = d-atom a in let db = d-atom b in let dc = d-atom c in d-eq (search diff) (omega arith)
-
-pub add-*ℤ : (a b c : ℤ) → (a +ℤ b) *ℤ c ≡ a *ℤ c +ℤ b *ℤ c
-add-*ℤ a b c = let da = d-atom a in let db = d-atom b in let dc = d-atom c in d-eq (search diff) (omega arith)
+pub of-eq : {a b : ℤ} → a ≡ b → (k : Sides a b) → k .lower ≡ k .upper
+of-eq e k = omega (arith, k .is, ap up e, ap down e)

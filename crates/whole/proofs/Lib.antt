@@ -3,13 +3,10 @@ pub mod Difference
 pub mod Polynomial
 pub mod Certificate
 pub mod Order
-pub mod Triangle
 pub mod Size
 pub mod Machine
 pub mod Rounding
 pub mod Remainder
 pub mod Roots
 pub mod Sums
-pub mod Bits
 pub mod Rows
-pub mod Examples

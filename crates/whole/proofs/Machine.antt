@@ -1,17 +1,17 @@
 -- What operations on i64 give, as facts about the numbers: tests, and the quotient toward zero.
-use mathlib.Core.Path.{_≡_, refl}
-use mathlib.Core.Bool.{Bool, true, false}
+use mathlib.Core.Path.{_≡_}
+use mathlib.Core.Bool.{true, false}
 use Prim.Native.Nat.{ℕ, zero, suc, _-_, _/_, _^_, _≤_, _<_}
 use native.Mathlib.Nat.{div-le-self}
 use native.Mathlib.Omega.{arith}
 use lib.IntN.{ℤ, pos, negsuc, negℤ}
-use lib.Dec.{T}
-use lib.Signed.{nonNeg, _≤ℤ_, _<ℤ_, leZ, ltZ, ltZ-no, leZ-yes, ltZ-yes, mag, quotZ}
+use lib.Dec.{not-T, ltb→lt}
+use lib.Signed.{_≤ℤ_, _<ℤ_, leZ, ltZ, ltZ-no, leZ-yes, ltZ-yes, mag, quotZ}
+use borrow.Author.Tests.{not-true}
 use denote.Floats.{is-true}
 use mir.Syntax.{w64}
 use mir.Val.{SFits, toZ, ofZ}
 use mir.Facts.{toZ-ofZ}
-use Rattle.whole.proofs.Difference.{diff, of-lt}
 
 -- what the machine reads back of a call's result: `back (c .f .result) (c .f .ok)`, for `simp`
 pub back : (z : ℤ) → mag z < 2 ^ 63 → toZ w64 (ofZ w64 z) ≡ z
@@ -33,36 +33,26 @@ pub true-lt : {x y : ℤ} → x <ℤ y → ltZ x y ≡ true
 true-lt h = is-true _ (h .lt)
 
 pub false-lt : {x y : ℤ} → (x <ℤ y → ⊥) → ltZ x y ≡ false
-false-lt {x} {y} h = by-test (ltZ x y) refl
-  where
-    by-test : (b : Bool) → ltZ x y ≡ b → ltZ x y ≡ false
-    by-test true e = absurd (h (lt-true e))
-    by-test false e = e
+false-lt {x} {y} h = not-true (ltZ x y) (is-true _ (not-T (ltZ x y) (λ t. h (ltZ-yes t))))
 
 pub true-le : {x y : ℤ} → x ≤ℤ y → leZ x y ≡ true
 true-le h = is-true _ (h .le)
-
--- what is not negative can be taken as unsigned
-pub non-neg : {z : ℤ} → pos 0 ≤ℤ z → T (nonNeg z)
-non-neg {z = pos n} h = tt
-non-neg {z = negsuc n} h = absurd (h .le)
 
 -- ---- a quotient toward zero is no larger than the dividend
 
 -- a divisor above 0 is not 0 as bits
 pub divisor : (d : ℤ) → pos 0 <ℤ d → 0 < ofZ w64 d
-divisor (pos n) h = omega (arith, of-lt h (search diff))
+divisor (pos n) h = omega (arith, ltb→lt)
 divisor (negsuc n) h = absurd (h .lt)
 
-pub quot-mag : (s d : ℤ) → pos 0 <ℤ d → mag (quotZ s d) ≤ mag s
-quot-mag (pos a) (pos b) h = div-le-self a b
-quot-mag (negsuc a) (pos b) h = omega (arith, neg-mag (suc a / b), div-le-self (suc a) b)
+pub quot-fits : {s d : ℤ} → pos 0 <ℤ d → SFits w64 s → SFits w64 (quotZ s d)
+quot-fits {s} {d} h f = record { sfits = omega (arith, quot-mag s d h, f .sfits) }
   where
     neg-mag : (n : ℕ) → mag (negℤ (pos n)) ≤ n - 1
     neg-mag zero = omega arith
     neg-mag (suc n) = omega arith
-quot-mag (pos a) (negsuc b) h = absurd (h .lt)
-quot-mag (negsuc a) (negsuc b) h = absurd (h .lt)
 
-pub quot-fits : {s d : ℤ} → pos 0 <ℤ d → SFits w64 s → SFits w64 (quotZ s d)
-quot-fits {s} {d} h f = record { sfits = omega (arith, quot-mag s d h, f .sfits) }
+    quot-mag : (s d : ℤ) → pos 0 <ℤ d → mag (quotZ s d) ≤ mag s
+    quot-mag (pos a) (pos b) h = div-le-self a b
+    quot-mag (negsuc a) (pos b) h = omega (arith, neg-mag (suc a / b), div-le-self (suc a) b)
+    quot-mag s (negsuc b) h = absurd (h .lt)

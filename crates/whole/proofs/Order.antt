@@ -1,14 +1,14 @@
 -- The order of the whole numbers: laws ready to cite.
 -- That numerals, squares, and sums and products of what is not negative are not negative: `g-num`, `g-sq`, `⊞`, `⊠` of Certificate.
 use mathlib.Core.Path.{_≡_}
-use mathlib.Core.Bool.{Bool, true, false, not}
-use mathlib.Core.Logic.{_⊎_, inl, inr, ⊎-elim}
+use mathlib.Core.Bool.{not}
 use mathlib.Core.List.{[], _∷_}
 use Prim.Native.Nat.{ℕ, _*_, _≤_, _<_}
 use native.Mathlib.Omega.{arith}
-use lib.Dec.{T}
+use lib.Dec.{not-T}
 use lib.IntN.{ℤ, pos, _*ℤ_}
 use lib.Signed.{_≤ℤ_, _<ℤ_, ltZ, ltZ-yes, ltZ-no}
+use mir.Facts.{T-not-not}
 use Rattle.whole.proofs.Difference.{diff, d-atom, d-le, d-lt, d-eq, of-le, of-lt}
 use Rattle.whole.proofs.Certificate.{quo, le!, false!, g-le, g-lt, g-num, _⊞_, _⊠_}
 
@@ -19,20 +19,12 @@ pub ≤-antisym : {a b : ℤ} → a ≤ℤ b → b ≤ℤ a → a ≡ b
 ≤-antisym {a} {b} h k =
     let da = d-atom a in let db = d-atom b in d-eq (search diff) (omega (arith, of-le h (search diff), of-le k (search diff)))
 
--- one of two numbers is at most the other
-pub ≤-or-< : (a b : ℤ) → (a ≤ℤ b) ⊎ (b <ℤ a)
-≤-or-< a b = by-test (ltZ b a) ltZ-yes ltZ-no
-  where
-    by-test : (t : Bool) → (T t → b <ℤ a) → (T (not t) → a ≤ℤ b) → (a ≤ℤ b) ⊎ (b <ℤ a)
-    by-test true f g = inr (f tt)
-    by-test false f g = inl (g tt)
-
 -- by contradiction
 pub ≤-unless : (a b : ℤ) → (b <ℤ a → ⊥) → a ≤ℤ b
-≤-unless a b f = ⊎-elim (λ h. h) (λ h. absurd (f h)) (≤-or-< a b)
+≤-unless a b f = ltZ-no (not-T (ltZ b a) (λ t. f (ltZ-yes t)))
 
 pub <-unless : (a b : ℤ) → (b ≤ℤ a → ⊥) → a <ℤ b
-<-unless a b f = ⊎-elim (λ h. absurd (f h)) (λ h. h) (≤-or-< b a)
+<-unless a b f = ltZ-yes (T-not-not (ltZ a b) (not-T (not (ltZ a b)) (λ t. f (ltZ-no t))))
 
 -- ---- squares
 

@@ -1,108 +1,82 @@
 -- What is left of a number once d has been taken off as often as it goes in, d times the quotient rounded down: how the machine's remainder
--- tells it, and that it lies from 0 to d - 1.
-use mathlib.Core.Path.{_≡_, refl, ap, _∙_}
+-- tells it, how large it is, and that the machine's quotient of what was taken off is the one rounded down.
+use mathlib.Core.Path.{_≡_, _∙_}
 use mathlib.Core.List.{[], _∷_}
-use Prim.Native.Nat.{ℕ, zero, suc, _*_, _/_, _%_, _<_, _≤_}
-use native.Mathlib.Nat.{div-add-mod, div-mul-le-self, le-div-iff-mul-le, le-of-suc-le-suc, lt-of-not-le, mul-div-cancel-left, zero-div}
+use Prim.Native.Nat.{ℕ, suc, _<_}
+use native.Mathlib.Nat.{div-add-mod, mod-lt}
 use native.Mathlib.Omega.{arith}
+use lib.Dec.{ltb→lt}
 use lib.IntN.{ℤ, pos, negsuc, negℤ, natAbs, _+ℤ_, _-ℤ_, _*ℤ_}
 use lib.Signed.{_≤ℤ_, _<ℤ_, quotZ, remZ, shrZ}
 use mir.Syntax.{w64}
 use mir.Val.{SFits}
 use Rattle.whole.specs.Range.{Within}
-use Rattle.whole.proofs.Difference.{diff, d-eq, of-le, of-lt}
-use Rattle.whole.proofs.Certificate.{quo, ring!, le!, lt!, g-le, g-lt}
-use Rattle.whole.proofs.Rounding.{floor-low, floor-high}
+use Rattle.whole.proofs.Difference.{diff, d-eq, d-lt}
+use Rattle.whole.proofs.Certificate.{quo, ring!, le!, lt!, g-le, g-lt, g-eq, g-num, _⊞_}
+use Rattle.whole.proofs.Order.{≤-antisym}
+use Rattle.whole.proofs.Size.{abs-of, mag-le}
+use Rattle.whole.proofs.Rounding.{floor-low, floor-high, at-most}
 
 -- what is left
 abbrev pub rest : ℤ → ℤ → ℤ
 rest s d = s -ℤ d *ℤ shrZ s (natAbs d)
 
--- ---- the machine's remainder
+pub record Remainder (s d : ℤ) : Type 0 where
+  -- a negative remainder of the machine's is d too small, any other is right
+  pub negative : remZ s d <ℤ pos 0 → remZ s d +ℤ d ≡ rest s d
+  pub other : pos 0 ≤ℤ remZ s d → remZ s d ≡ rest s d
+  pub within : Within (natAbs d) (rest s d)
+  pub fits : SFits w64 d → SFits w64 (rest s d)
+  pub quotient : quotZ (s -ℤ rest s d) d ≡ shrZ s (natAbs d)
 
--- how often b goes into the number after a: as often as into a, or once more where nothing is left
-module _ (a b : ℕ) (h : 0 < b) where
-  same : 0 < suc a % b → suc a / b ≡ a / b
-  same r =
-      let up : suc a / b ≤ a / b = le-div-iff-mul-le h .1 (omega (arith, div-add-mod (suc a) b)) in
-      let down : a / b ≤ suc a / b = le-div-iff-mul-le h .1 (omega (arith, div-mul-le-self a b)) in
-      omega arith
+-- ---- the machine's quotient and remainder
 
-  once-more : (p : ℕ) → suc a ≡ b * suc p → a / b ≡ p
-  once-more p e =
-      let up : p ≤ a / b = le-div-iff-mul-le h .1 (omega arith) in
-      let down : a / b ≤ p = le-of-suc-le-suc (lt-of-not-le (λ k. past (le-div-iff-mul-le h .0 k))) in
-      omega arith
-    where
-      past : suc p * b ≤ a → ⊥
-      past k = omega arith
+divided : (s : ℤ) (b : ℕ) → s ≡ pos b *ℤ quotZ s (pos b) +ℤ remZ s (pos b)
+divided (pos a) b = d-eq (search diff) (omega (arith, div-add-mod a b))
+divided (negsuc a) b = d-eq (search diff) (omega (arith, div-add-mod (suc a) b))
 
--- a negative one is d too small
-pub rest-negative : (s d : ℤ) → pos 0 <ℤ d → remZ s d <ℤ pos 0 → remZ s d +ℤ d ≡ rest s d
-rest-negative (pos a) d h k = let z : ⊥ = omega (arith, of-lt k (search diff)) in absurd z
-rest-negative (negsuc a) (pos b) h k =
-    let above : 0 < b = omega (arith, of-lt h (search diff)) in
-    let left : 0 < suc a % b = omega (arith, of-lt k (search diff)) in
-    d-eq (search diff) (omega (arith, rw (same a b above left) at (div-add-mod (suc a) b)))
-rest-negative (negsuc a) (negsuc b) h k = absurd (h .lt)
+rem-above : (s : ℤ) (b : ℕ) → 0 < b → negℤ (pos b) <ℤ remZ s (pos b)
+rem-above (pos a) b p = d-lt (search diff) (omega arith)
+rem-above (negsuc a) b p = d-lt (search diff) (omega (arith, mod-lt (suc a) p))
 
--- any other is right
-pub rest-other : (s d : ℤ) → pos 0 <ℤ d → pos 0 ≤ℤ remZ s d → remZ s d ≡ rest s d
-rest-other (pos a) (pos b) h k = d-eq (search diff) (omega (arith, div-add-mod a b))
-rest-other (negsuc a) (pos b) h k =
-    let none : suc a % b ≡ 0 = omega (arith, of-le k (search diff)) in
-    whole-times (suc a / b) none (omega (arith, div-add-mod (suc a) b))
-  where
-    whole-times : (q : ℕ) → suc a % b ≡ 0 → suc a ≡ b * q → negℤ (pos (suc a % b)) ≡ rest (negsuc a) (pos b)
-    whole-times zero n e = absurd (omega arith)
-    whole-times (suc p) n e =
-        rw (n, once-more a b (omega (arith, of-lt h (search diff))) p e) (d-eq (search diff) (omega arith))
-rest-other s (negsuc b) h k = absurd (h .lt)
+rem-below : (s : ℤ) (b : ℕ) → 0 < b → remZ s (pos b) <ℤ pos b
+rem-below (pos a) b p = d-lt (search diff) (omega (arith, mod-lt a p))
+rem-below (negsuc a) b p = d-lt (search diff) (omega arith)
 
--- ---- how large it is
+-- ---- what is left
 
-pub rest-least : (s d : ℤ) → pos 0 <ℤ d → pos 0 ≤ℤ rest s d
-rest-least s (pos b) h =
-    le! (s ∷ pos b ∷ shrZ s b ∷ []) (g-le (floor-low s b (omega (arith, of-lt h (search diff))))) (search quo depth 40) tt
-rest-least s (negsuc b) h = absurd (h .lt)
+module _ (s : ℤ) (b : ℕ) (p : 0 < b) where
+  -- a number from 0 to b - 1 is left, if b times some other makes up s with it
+  left-is : (q r : ℤ) → s ≡ pos b *ℤ q +ℤ r → pos 0 ≤ℤ r → r <ℤ pos b → r ≡ rest s (pos b)
+  left-is q r e low high =
+      let f = shrZ s b in
+      let same : f ≡ q = ≤-antisym
+      (at-most b f q (lt! (s ∷ pos b ∷ q ∷ r ∷ f ∷ []) (g-le (floor-low s b p) ⊞ g-lt high ⊞ g-eq e (pos 1)) (search quo depth 40) tt))
+      (at-most b q f (lt! (s ∷ pos b ∷ q ∷ r ∷ f ∷ []) (g-lt (floor-high s b p) ⊞ low ⊞ g-eq e (negsuc 0)) (search quo depth 40) tt)) in
+      rw (same, e) (ring! (pos b ∷ q ∷ r ∷ []) (search quo depth 40) tt)
 
-pub rest-below : (s d : ℤ) → pos 0 <ℤ d → rest s d <ℤ d
-rest-below s (pos b) h =
-    lt! (s ∷ pos b ∷ shrZ s b ∷ []) (g-lt (floor-high s b (omega (arith, of-lt h (search diff))))) (search quo depth 40) tt
-rest-below s (negsuc b) h = absurd (h .lt)
-
--- a number from 0 to below d
-within-below : (z d : ℤ) → pos 0 ≤ℤ z → z <ℤ d → Within (natAbs d) z
-within-below (pos n) (pos m) l h = record { size = omega (arith, of-lt h (search diff)) }
-within-below (pos n) (negsuc m) l h = absurd (h .lt)
-within-below (negsuc n) d l h = absurd (l .le)
-
-pub rest-within : (s d : ℤ) → pos 0 <ℤ d → Within (natAbs d) (rest s d)
-rest-within s d h = within-below (rest s d) d (rest-least s d h) (rest-below s d h)
-
-fits-below : (z d : ℤ) → pos 0 ≤ℤ z → z <ℤ d → SFits w64 d → SFits w64 z
-fits-below (pos n) (pos m) l h f = record { sfits = omega (arith, of-lt h (search diff), f .sfits) }
-fits-below (pos n) (negsuc m) l h f = absurd (h .lt)
-fits-below (negsuc n) d l h f = absurd (l .le)
-
-pub rest-fits : (s d : ℤ) → pos 0 <ℤ d → SFits w64 d → SFits w64 (rest s d)
-rest-fits s d h f = fits-below (rest s d) d (rest-least s d h) (rest-below s d h) f
-
--- ---- the quotient
-
--- once it is taken off, d goes in exactly as often as the quotient rounded down says
-pub quot-rest : (s d : ℤ) → pos 0 <ℤ d → quotZ (s -ℤ rest s d) d ≡ shrZ s (natAbs d)
-quot-rest s d h =
-    let e : s -ℤ rest s d ≡ d *ℤ shrZ s (natAbs d) = ring! (s ∷ d ∷ shrZ s (natAbs d) ∷ []) (search quo depth 40) tt in
-    rw e (times-quot d (shrZ s (natAbs d)) h)
-  where
-    -- the quotient of a negative number, which goes toward zero
-    quot-neg : (k b : ℕ) → quotZ (negℤ (pos k)) (pos b) ≡ negℤ (pos (k / b))
-    quot-neg zero b = rw (zero-div b)
-    quot-neg (suc k) b = refl
-
-    times-quot : (d q : ℤ) → pos 0 <ℤ d → quotZ (d *ℤ q) d ≡ q
-    times-quot (pos b) (pos n) h = ap pos (mul-div-cancel-left n (omega (arith, of-lt h (search diff))))
-    times-quot (pos b) (negsuc n) h =
-        quot-neg (b * suc n) b ∙ ap (λ (k : ℕ). negℤ (pos k)) (mul-div-cancel-left (suc n) (omega (arith, of-lt h (search diff))))
-    times-quot (negsuc b) q h = absurd (h .lt)
+pub remainder : (s d : ℤ) → pos 0 <ℤ d → Remainder s d
+remainder s (negsuc b) h = absurd (h .lt)
+remainder s (pos b) h =
+    let p : 0 < b = omega (arith, ltb→lt) in
+    let q = quotZ s (pos b) in
+    let r = remZ s (pos b) in
+    let small : Within b (rest s (pos b)) = abs-of
+    (le! (s ∷ pos b ∷ shrZ s b ∷ []) (g-le (floor-low s b p) ⊞ g-num b) (search quo depth 40) tt)
+    (le! (s ∷ pos b ∷ shrZ s b ∷ []) (g-lt (floor-high s b p) ⊞ g-num 1) (search quo depth 40) tt) in
+    record {
+      negative = λ k. left-is s b p (q -ℤ pos 1) (r +ℤ pos b)
+          (divided s b ∙ ring! (pos b ∷ q ∷ r ∷ []) (search quo depth 40) tt)
+          (le! (pos b ∷ r ∷ []) (g-lt (rem-above s b p) ⊞ g-num 1) (search quo depth 40) tt)
+          (lt! (pos b ∷ r ∷ []) (g-lt k) (search quo depth 40) tt);
+      other = λ k. left-is s b p q r (divided s b) k (rem-below s b p);
+      within = small;
+      fits = λ f. record { sfits = omega (arith, mag-le (rest s (pos b)), small .size, f .sfits) };
+      quotient =
+          let t = s -ℤ rest s (pos b) in
+          let q = quotZ t (pos b) in
+          let e = divided t b in
+          ≤-antisym
+          (at-most b q (shrZ s b) (lt! (s ∷ pos b ∷ shrZ s b ∷ q ∷ remZ t (pos b) ∷ []) (g-lt (rem-above t b p) ⊞ g-eq e (negsuc 0)) (search quo depth 40) tt))
+          (at-most b (shrZ s b) q (lt! (s ∷ pos b ∷ shrZ s b ∷ q ∷ remZ t (pos b) ∷ []) (g-lt (rem-below t b p) ⊞ g-eq e (pos 1)) (search quo depth 40) tt));
+    }

@@ -1,9 +1,9 @@
 -- The two roots: each computing form has its meaning, and no second number has it.
-use mathlib.Core.Path.{_≡_}
+use mathlib.Core.Path.{_≡_, refl}
 use mathlib.Core.Bool.{Bool, true, false, not}
 use Prim.Native.Nat.{ℕ, zero, suc, _+_, _*_, _/_, _≤_, _<_}
 use native.Mathlib.Nat.{le-antisymm}
-use native.Mathlib.Omega.{arith, by-contra}
+use native.Mathlib.Omega.{arith}
 use lib.Dec.{T, leb, leb→le, nleb→lt}
 use lib.IntN.{pos}
 use Rattle.whole.specs.Root.{IsFloorRoot, IsRootUp, bump, fromQuarter, rootWithin, floorRoot, rootUp}
@@ -26,7 +26,7 @@ floorRoot-unique {n} p q = le-antisymm (at-most p q) (at-most q p)
     at-most {r} {s} p q = omega (arith, sq-lt r (s + 1) (omega (arith, p .low, q .high)))
 
 -- doubling the root of a quarter loses one at most
-pub fromQuarter-is : (n r : ℕ) → IsFloorRoot (n / 4) r → IsFloorRoot n (fromQuarter n r)
+fromQuarter-is : (n r : ℕ) → IsFloorRoot (n / 4) r → IsFloorRoot n (fromQuarter n r)
 fromQuarter-is n r h =
     let s = (2 * r + 1) * (2 * r + 1) in by-test (leb s n) (leb→le s n) (nleb→lt s n)
   where
@@ -56,6 +56,11 @@ rootUp-is (suc n) =
     let r = floorRoot-is n in
     record { reach = omega (arith, r .high); least = λ v h. sq-lt (floorRoot n) v (omega (arith, r .low, h)) }
 
--- the number below it has a square below n
-pub rootUp-below : (n v : ℕ) → rootUp n ≡ suc v → v * v < n
-rootUp-below n v e = by-contra (suc (v * v)) n (λ k. omega (arith, rootUp-is n .least v (omega arith), e))
+-- an end of P11: 64 times the root of 2 is a little more than 90
+root-down : floorRoot 8192 ≡ 90
+unfolding floorRoot
+root-down = refl
+
+p11 : rootUp 8192 ≡ 91
+unfolding rootUp floorRoot
+p11 = refl

@@ -1,9 +1,9 @@
 -- Rounding by d, proved once over d: the rule of document 01 has exactly one number, `roundBy` computes it,
 -- and how far off and how large it is follows from `Near` alone.
-use mathlib.Core.Path.{_≡_, ap}
+use mathlib.Core.Path.{_≡_, refl}
 use mathlib.Core.List.{[], _∷_}
 use Prim.Native.Nat.{ℕ, _+_, _/_, _%_, _≤_, _<_}
-use native.Mathlib.Nat.{div-add-mod, mod-lt, le-div-iff-mul-le, div-eq-of-lt}
+use native.Mathlib.Nat.{div-add-mod, mod-lt, le-div-iff-mul-le}
 use native.Mathlib.Omega.{arith}
 use lib.IntN.{ℤ, pos, negsuc, _+ℤ_, _-ℤ_, _*ℤ_}
 use lib.Signed.{_≤ℤ_, _<ℤ_, shrZ}
@@ -23,6 +23,10 @@ floor-low (negsuc a) d p = d-le (search diff) (omega (arith, div-add-mod a d, mo
 pub floor-high : (z : ℤ) (d : ℕ) → 0 < d → z <ℤ (pos d *ℤ shrZ z d +ℤ pos d)
 floor-high (pos a) d p = d-lt (search diff) (omega (arith, div-add-mod a d, mod-lt a p))
 floor-high (negsuc a) d p = d-lt (search diff) (omega (arith, div-add-mod a d))
+
+-- d y is below d z + d only where y is at most z
+pub at-most : (d : ℕ) (y z : ℤ) → (pos d *ℤ y) <ℤ (pos d *ℤ z +ℤ pos d) → y ≤ℤ z
+at-most d y z h = ≤-unless y z (λ k. false! (pos d ∷ y ∷ z ∷ []) (g-lt h ⊞ g-num d ⊠ g-lt k) (search quo depth 40) tt)
 
 -- ---- the rounded number
 
@@ -52,19 +56,22 @@ round-is d p even A =
 
 -- and no second number is
 pub round-unique : {d : ℕ} {A y z : ℤ} → Rounded d A y → Rounded d A z → y ≡ z
-round-unique {d} {A} r t = ≤-antisym (at-most r t) (at-most t r)
+round-unique {d} {A} r t = ≤-antisym (one-way r t) (one-way t r)
   where
-    at-most : {y z : ℤ} → Rounded d A y → Rounded d A z → y ≤ℤ z
-    at-most {y} {z} r t =
+    one-way : {y z : ℤ} → Rounded d A y → Rounded d A z → y ≤ℤ z
+    one-way {y} {z} r t =
         let h = pos (d / 2) in
         let half : d / 2 + d / 2 ≤ d = omega arith in
-        ≤-unless y z
-        (λ k. false! (pos d ∷ h ∷ A ∷ y ∷ z ∷ []) (g-le (r .low) ⊞ g-lt (t .high) ⊞ g-num d ⊠ g-lt k ⊞ g-le (le-ℤ half)) (search quo depth 40) tt)
+        at-most d y z (lt! (pos d ∷ h ∷ A ∷ y ∷ z ∷ []) (g-le (r .low) ⊞ g-lt (t .high) ⊞ g-le (le-ℤ half)) (search quo depth 40) tt)
 
--- 0 is rounded to 0
-pub round-zero : (d : ℕ) → 0 < d → roundBy d (pos 0) ≡ pos 0
+-- P4 and P5 of document 01, which are -4 and -5 times 16384
+p4 : roundBy 131072 (negsuc 65535) ≡ pos 0
 unfolding roundBy
-round-zero d p = ap pos (div-eq-of-lt (omega arith))
+p4 = refl
+
+p5 : roundBy 131072 (negsuc 81919) ≡ negsuc 0
+unfolding roundBy
+p5 = refl
 
 -- ---- what `Near` alone tells
 
@@ -75,11 +82,6 @@ round-error {d} {A} {y} n =
     abs-of
     (le! (pos d ∷ h ∷ A ∷ y ∷ []) (g-le (n .low)) (search quo depth 40) tt)
     (le! (pos d ∷ h ∷ A ∷ y ∷ []) (g-le (n .high)) (search quo depth 40) tt)
-
--- the same of the squares
-pub round-error-sq : {d : ℕ} {A y : ℤ} → Near d A y → ((A -ℤ pos d *ℤ y) *ℤ (A -ℤ pos d *ℤ y)) ≤ℤ (pos (d / 2) *ℤ pos (d / 2))
-round-error-sq {d} {A} {y} n =
-    le! (pos d ∷ pos (d / 2) ∷ A ∷ y ∷ []) (g-le (n .low) ⊠ g-le (n .high)) (search quo depth 40) tt
 
 -- how large a rounded number is
 pub round-bound : {d b : ℕ} {A y : ℤ} → 0 < d → Near d A y → Within b A → Within ((b + d / 2) / d) y

@@ -1,10 +1,8 @@
--- What the contracts of `whole` mean: a range, the rounding rule, the two roots, sums, bits and two's complement; and what the laws on
--- lengths speak of.
+-- What the contracts of `whole` mean: a range, the rounding rule, the two roots, sums, bits and two's complement.
 pub mod Exactly
 pub mod Range
 pub mod Round
 pub mod Root
 pub mod Sum
-pub mod Length
 pub mod TwosComplement
 pub mod Bits

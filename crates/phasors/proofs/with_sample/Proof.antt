@@ -1,10 +1,12 @@
 -- `phasors::with_sample` meets its contract: the i16 are read as they stand, and products and sums fit. Assumes nothing.
 use Prim.Native.Nat.{_^_}
+use mathlib.Core.Path.{_≡_, _∙_}
 use lib.IntN.{ℤ, _*ℤ_}
-use mir.Syntax.{w16}
-use mir.Val.{SFits}
+use mir.Syntax.{w16, w64}
+use mir.Val.{SFits, toZ, ofZ}
+use mir.Facts.{toZ-ofZ}
 use Rattle.whole.specs.Range.{Within}
-use Rattle.whole.proofs.Size.{add, sub, mul, fit, rd, fitted, widened, widened-is}
+use Rattle.whole.proofs.Size.{add, sub, mul, fit, rd, fitted}
 use Rattle.phasors.specs.Sums.{withSample}
 use Rattle.phasors.proofs.with_sample.Statement.{statement}
 use Rattle.phasors.proofs.with_sample.Tie as tie
@@ -12,6 +14,13 @@ use Rattle.phasors.proofs.with_sample.Tie as tie
 -- a product of two i16
 product : {x y : ℤ} → SFits w16 x → SFits w16 y → Within (2 ^ 30) (x *ℤ y)
 product f g = mul (fitted f) (fitted g)
+
+-- an i16 taken as an i64: it fits, and is the same number
+widened : {z : ℤ} → SFits w16 z → SFits w64 (toZ w16 (ofZ w16 z))
+widened f = simp (toZ-ofZ f) (fit (fitted f) tt)
+
+widened-is : {z : ℤ} → SFits w16 z → toZ w64 (ofZ w64 (toZ w16 (ofZ w16 z))) ≡ z
+widened-is f = toZ-ofZ (widened f) ∙ toZ-ofZ f
 
 cast-re : tie.Need-cast-re
 cast-re c = widened (c .fits .x)

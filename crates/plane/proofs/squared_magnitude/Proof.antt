@@ -3,7 +3,8 @@ use mathlib.Core.Path.{ap}
 use native.Mathlib.Omega.{arith}
 use borrow.Author.Needs.{needs}
 use lib.IntN.{natAbs}
-use Rattle.whole.proofs.Machine.{back, non-neg}
+use lib.Signed.{yes-nonNeg}
+use Rattle.whole.proofs.Machine.{back}
 use Rattle.plane.specs.Plane.{squaredMagnitude}
 use Rattle.plane.proofs.Bounds.{within-dot}
 use Rattle.plane.proofs.Laws.{squared-nonneg}
@@ -18,7 +19,7 @@ cast-result c =
     let s = c .square in
     let p = c .before .args .p in
     let small = within-dot (c .before .pre) (c .before .pre) in
-    simp (back (s .result) (s .ok)) (rw (s .ensures) (non-neg (squared-nonneg p), record { fits = omega (arith, small .size) }))
+    simp (back (s .result) (s .ok)) (rw (s .ensures) (yes-nonNeg (squared-nonneg p), record { fits = omega (arith, small .size) }))
 
 returns : tie.Need-returns
 unfolding squaredMagnitude

@@ -2,9 +2,9 @@
 use mathlib.Core.List.{[], _∷_}
 use lib.IntN.{ℤ, pos, negℤ, _+ℤ_, _-ℤ_, _*ℤ_}
 use lib.Signed.{_≤ℤ_, leZ-yes}
-use Rattle.whole.specs.Length.{Len}
+use Rattle.plane.specs.Length.{Len}
 use Rattle.whole.proofs.Certificate.{quo, le!, g-le, g-num, g-sq, _⊞_, _⊠_}
 use Rattle.whole.proofs.Order.{≤-trans, sq-≤}
 
 -- a scalar product is at most the product of the lengths
 pub cauchy : {x y z w a b : ℤ} → Len x y a → Len z w b → (x *ℤ z +ℤ y *ℤ w) ≤ℤ (a *ℤ b)
