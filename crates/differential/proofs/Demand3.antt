@@ -8,8 +8,9 @@ use native.Mathlib.Omega.{arith, by-contra}
 use native.Mathlib.Nat.{mul-le-mul}
 use lib.IntN.{pos, _*ℤ_}
 use lib.Signed.{_≤ℤ_, _<ℤ_}
-use Rattle.whole.proofs.Certificate.{quo, le!, lt!, le-times!, false!, g-le, g-lt, g-num, g-sq, _⊞_, _⊠_}
-use Rattle.whole.proofs.Order.{sq-<, le-ℤ, lt-ℤ, le-ℕ, lt-ℕ}
+use Rattle.whole.proofs.Certificate.{quo, le!, lt!, false!, g-le, g-lt, g-num, g-sq, _⊞_, _⊠_}
+use Rattle.whole.proofs.Roots.{sq-lt}
+use Rattle.whole.proofs.Order.{le-ℤ, lt-ℤ, le-ℕ, lt-ℕ}
 use Rattle.plane.proofs.Triangle.{len-add, len-neg, len-scale, len-root}
 use Rattle.plane.specs.declared.Phasor.{Phasor}
 use Rattle.plane.specs.Plane.{NearTo, Long, minus, scaled, dot, squared}
@@ -38,8 +39,8 @@ module _ {d c : ℕ} (corner : Corner d c) {x i : ℕ → Phasor} (near : (e : �
       let one = g-le (le-ℤ md) in
       let over : (pos (K * U) *ℤ pos (K * U)) <ℤ (pos 40960000 *ℤ squared S) = rw (sym (squared-magnitude-is S)) (lt-ℤ op) in
       let back = len-add (len-scale (pos 64) (g-num 64) (exact-high m T)) (len-neg (len-scale (pos m) (g-num m) (all-deviate corner near n))) in
-      lt-ℕ
-      (sq-< (pos (m * (d * (K * U)))) (pos (100 * R)) (g-num (100 * R))
+      sq-lt (m * (d * (K * U))) (100 * R)
+      (lt-ℕ
       (lt! (pos R ∷ pos m ∷ pos d ∷ pos K ∷ pos U ∷ S .re ∷ S .im ∷ T .re ∷ T .im ∷ [])
       (g-num 10000 ⊠ g-le (back .square) ⊞ g-sq (pos (m * d)) ⊠ g-lt over ⊞ one ⊠ (one ⊞ g-num 2)) (search quo depth 40 fits 4000) tt))
 
@@ -67,11 +68,11 @@ within-band :
     (d c w m K n U l g : ℕ) → 2 * c + d < 64 * w → K ≤ 100 → 64 * l ≤ m * (d * U + c * n) →
     m * (d * (K * U)) < 100 * (64 * g + m * (c * n)) → K * l < 100 * (g + w * n * m)
 within-band d c w m K n U l g room k1 below large =
-    let one-more : K * l + 1 ≤ 100 * (g + w * n * m) =
-    le-ℕ
-    (le-times! (pos d ∷ pos c ∷ pos w ∷ pos m ∷ pos K ∷ pos n ∷ pos U ∷ pos l ∷ pos g ∷ []) (g-num 63)
+    let sixty-four-times : 64 * (K * l) < 64 * (100 * (g + w * n * m)) =
+    lt-ℕ
+    (lt! (pos d ∷ pos c ∷ pos w ∷ pos m ∷ pos K ∷ pos n ∷ pos U ∷ pos l ∷ pos g ∷ [])
     (g-lt (lt-ℤ large) ⊞ g-num K ⊠ g-le (le-ℤ below) ⊞ g-le (le-ℤ k1) ⊠ g-num (m * c * n) ⊞ g-num (100 * n * m) ⊠ (g-lt (lt-ℤ room) ⊞ g-num d ⊞ g-num 1))
-    (search quo depth 40) tt) in
+    (search quo depth 40 fits 2000) tt) in
     omega arith
 
 past-band :
@@ -80,7 +81,7 @@ past-band :
 past-band d c w m K n U f h room k1 some above top past =
     false! (pos d ∷ pos c ∷ pos w ∷ pos m ∷ pos K ∷ pos n ∷ pos U ∷ pos f ∷ pos h ∷ [])
     (g-num 64 ⊠ g-le (le-ℤ past) ⊞ g-le (le-ℤ top) ⊞ g-num K ⊠ g-le (le-ℤ above) ⊞ g-le (le-ℤ k1) ⊠ g-num (m * n * (c + d))
-    ⊞ g-num (100 * n * m) ⊠ g-lt (lt-ℤ room) ⊞ g-num 100 ⊠ g-le (le-ℤ some) ⊞ g-num 99) (search quo depth 40) tt
+    ⊞ g-num (100 * n * m) ⊠ g-lt (lt-ℤ room) ⊞ g-num 100 ⊠ g-le (le-ℤ some) ⊞ g-num 99) (search quo depth 40 fits 2000) tt
 
 -- ---- the two halves, for every band with room
 

@@ -8,6 +8,9 @@ use native.Mathlib.Omega.{arith}
 use lib.Dec.{T, leb, ltb}
 use lib.IntN.{ℤ, pos, natAbs, _+ℤ_}
 use lib.ListN.{length}
+use lib.Signed.{natAbs-le}
+use mir.Syntax.{w16}
+use mir.Val.{SFits}
 use Rattle.whole.specs.Range.{Within}
 use Rattle.whole.specs.Round.{Rounded}
 use Rattle.whole.specs.Sum.{sumOf}
@@ -28,6 +31,10 @@ unfolding sumTo
 sum-next table shift x n = rw (add-one n)
 
 -- ---- one turn of the loop
+
+-- a sample or a coefficient lies within what an i16 holds
+pub fitted : {z : ℤ} → SFits w16 z → Within 32768 z
+fitted {z} f = record { size = natAbs-le z (f .sfits) }
 
 pub summed-none : (table : List ℤ) (shift : ℕ) (x : ℕ → ℤ) → Summed table shift x 0 zero
 unfolding sumTo sumOf

@@ -1,11 +1,16 @@
 -- How `Inside` goes through each operation. The bounds are numerals and compute: `inside-wider (inside-times p q) tt`.
 use mathlib.Core.Path.{_≡_}
-use Prim.Native.Nat.{ℕ, _+_, _*_, _/_}
+use mathlib.Core.List.{[], _∷_}
+use Prim.Native.Nat.{ℕ, _+_, _*_, _/_, _<_}
+use native.Mathlib.Nat.{le-div-iff-mul-le}
+use native.Mathlib.Omega.{arith}
 use lib.Dec.{T, leb, ltb, ltb→lt}
-use lib.IntN.{ℤ}
+use lib.IntN.{ℤ, pos, _-ℤ_, _*ℤ_}
 use Rattle.whole.specs.Range.{Within}
-use Rattle.whole.proofs.Size.{neg, add, sub, mul, wider}
-use Rattle.whole.proofs.Rounding.{round-near, round-bound}
+use Rattle.whole.specs.Round.{Near}
+use Rattle.whole.proofs.Certificate.{quo, ring! }
+use Rattle.whole.proofs.Size.{neg, add, sub, mul, wider, along, abs-mul}
+use Rattle.whole.proofs.Rounding.{round-near, round-error}
 use Rattle.plane.specs.declared.Phasor.{Phasor}
 use Rattle.plane.specs.Plane.{Inside, plus, minus, times, scaled, rounded, minusJ, dot}
 
@@ -30,6 +35,13 @@ inside-times h k = inside-factor (h .real) (h .imag) k
 pub inside-scaled : {a b : ℕ} {n : ℤ} {p : Phasor} → Within a n → Inside b p → Inside (a * b) (scaled n p)
 unfolding scaled
 inside-scaled h k = record { real = mul h (k .real); imag = mul h (k .imag) }
+
+-- how large a rounded number is
+round-bound : {d b : ℕ} {A y : ℤ} → 0 < d → Near d A y → Within b A → Within ((b + d / 2) / d) y
+round-bound {d} {b} {A} {y} p n w =
+    let e : pos d *ℤ y ≡ A -ℤ (A -ℤ pos d *ℤ y) = ring! (pos d ∷ A ∷ y ∷ []) (search quo depth 40) tt in
+    let k = along e (sub w (round-error n)) in
+    record { size = le-div-iff-mul-le p .1 (omega (arith, k .size, abs-mul (pos d) y)) }
 
 pub inside-rounded : {b : ℕ} {p : Phasor} (d : ℕ) → T (ltb 0 d) → Inside b p → Inside ((b + d / 2) / d) (rounded d p)
 unfolding rounded

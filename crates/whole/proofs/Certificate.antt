@@ -1,6 +1,7 @@
 -- Identities and orders over ℤ, of any degree: `search quo depth 40` finds the expression that a term is, and `tt` checks by computation.
 -- A certificate is a proof that some term is not negative, put together from facts, squares and numerals by `⊞` and `⊠`;
--- `le!` proves a ≤ b by a certificate of b - a. To find what one lacks put `?` for `tt`: the goal shows the polynomial that is left.
+-- `le!` proves a ≤ b by a certificate of b - a. To find what one lacks put `?` for `tt`: the goal shows the monomials that are left.
+-- A certificate of some fifty parts wants `search quo depth 40 fits 2000`.
 use mathlib.Core.Path.{_≡_, refl, sym, ap, ap₂, _∙_}
 use mathlib.Core.List.{List, [], _∷_}
 use Prim.Native.Nat.{ℕ, zero, suc, _+_, _*_}
@@ -9,8 +10,8 @@ use native.Mathlib.Numerals.{add-one}
 use lib.Dec.{T, leb}
 use lib.IntN.{ℤ, pos, negsuc, negℤ, _+ℤ_, _-ℤ_, _*ℤ_}
 use lib.Signed.{_≤ℤ_, _<ℤ_}
-use Rattle.whole.proofs.Difference.{diff, d-atom, d-le, d-lt, of-le, of-lt}
-use Rattle.whole.proofs.Polynomial.{Poly, con, plus, times, opposite, unknown, total, plus-total, times-total, opposite-total, unknown-total, Same, same-total}
+use Rattle.whole.proofs.Difference.{diff, d-atom, d-le, d-lt, d-eq, of-le, of-lt, of-eq}
+use Rattle.whole.proofs.Polynomial.{Poly, con, plus, times, unknown, Nothing, total, plus-total, times-total, opposite-total, unknown-total, nothing-total}
 
 -- ---- quoting: the polynomial in the unknowns ρ that a term is
 
@@ -55,7 +56,7 @@ q-mul {ρ} x y =
     record { poly = times (x .poly) (y .poly); is = times-total (nth ρ) (x .poly) (y .poly) ∙ ap₂ _*ℤ_ (x .is) (y .is) }
 
 abbrev pub q-neg : {ρ : List ℤ} {a : ℤ} → Quo ρ a → Quo ρ (negℤ a)
-q-neg {ρ} x = record { poly = opposite (x .poly); is = opposite-total (nth ρ) (x .poly) ∙ ap negℤ (x .is) }
+q-neg {ρ} x = record { poly = times (con (negsuc 0)) (x .poly); is = opposite-total (nth ρ) (x .poly) ∙ ap negℤ (x .is) }
 
 -- a numeral, at which alone the test computes, so that `q-yes` proves it
 abbrev pub q-num : {ρ : List ℤ} (n : ℕ) → T (leb 0 n) → Quo ρ (pos n)
@@ -78,19 +79,16 @@ q-suc {n = n} x =
 abbrev pub q-negsuc : {ρ : List ℤ} {n : ℕ} → Quo ρ (pos n) → Quo ρ (negsuc n)
 q-negsuc x = q-neg (q-suc x)
 
--- two terms, so that one `search` quotes both
-pub record Quo2 (ρ : List ℤ) (a b : ℤ) : Type 0 where
-  pub left : Quo ρ a
-  pub right : Quo ρ b
+pub ruleset quo = (q-var, p0, p1, p2, p3, p-after, q-add, q-mul, q-neg, q-num, q-yes, q-add-ℕ, q-mul-ℕ, q-suc, q-negsuc)
 
-abbrev pub q-both : {ρ : List ℤ} {a b : ℤ} → Quo ρ a → Quo ρ b → Quo2 ρ a b
-q-both x y = record { left = x; right = y }
+-- a term of which nothing is left is 0
+vanishes : (ρ : List ℤ) {t : ℤ} (k : Quo ρ t) → Nothing (k .poly) → t ≡ pos 0
+vanishes ρ k n = sym (k .is) ∙ nothing-total (nth ρ) (k .poly) n
 
-pub ruleset quo = (q-var, p0, p1, p2, p3, p-after, q-add, q-mul, q-neg, q-num, q-yes, q-add-ℕ, q-mul-ℕ, q-suc, q-negsuc, q-both)
-
--- an identity of polynomials
-pub ring! : (ρ : List ℤ) {a b : ℤ} (k : Quo2 ρ a b) → Same (k .left .poly) (k .right .poly) → a ≡ b
-ring! ρ k t = sym (k .left .is) ∙ same-total (nth ρ) (k .left .poly) (k .right .poly) t ∙ k .right .is
+-- an identity: nothing is left of the difference
+pub ring! : (ρ : List ℤ) {a b : ℤ} (k : Quo ρ (a -ℤ b)) → Nothing (k .poly) → a ≡ b
+ring! ρ {a} {b} k n =
+    let da = d-atom a in let db = d-atom b in d-eq (search diff) (omega (arith, of-eq (vanishes ρ k n) (search diff)))
 
 -- ---- certificates: what is not negative (a fact 0 ≤ a is one as it stands)
 
@@ -130,34 +128,18 @@ _⊠_ {a = negsuc m} h k = absurd (h .le)
 
 -- ---- goals
 
--- a certificate of t is one of s, where the two are the same polynomial
-certified : (ρ : List ℤ) {s t : ℤ} → pos 0 ≤ℤ t → (k : Quo2 ρ s t) → Same (k .left .poly) (k .right .poly) → pos 0 ≤ℤ s
-certified ρ c k e = rw (ring! ρ k e) c
-
-gap-le : {a b : ℤ} → pos 0 ≤ℤ (b -ℤ a) → a ≤ℤ b
-gap-le {a} {b} h =
-    let da = d-atom a in let db = d-atom b in d-le (search diff) (omega (arith, of-le h (search diff)))
-
 -- from a certificate of b - a
-pub le! : (ρ : List ℤ) {a b t : ℤ} → pos 0 ≤ℤ t → (k : Quo2 ρ (b -ℤ a) t) → Same (k .left .poly) (k .right .poly) → a ≤ℤ b
-le! ρ c k e = gap-le (certified ρ c k e)
+pub le! : (ρ : List ℤ) {a b t : ℤ} → pos 0 ≤ℤ t → (k : Quo ρ (b -ℤ a -ℤ t)) → Nothing (k .poly) → a ≤ℤ b
+le! ρ {a} {b} {t} c k n =
+    let da = d-atom a in let db = d-atom b in let dt = d-atom t in
+    d-le (search diff) (omega (arith, of-le c (search diff), of-eq (vanishes ρ k n) (search diff)))
 
 -- of b - a - 1
-pub lt! : (ρ : List ℤ) {a b t : ℤ} → pos 0 ≤ℤ t → (k : Quo2 ρ (b -ℤ a -ℤ pos 1) t) → Same (k .left .poly) (k .right .poly) → a <ℤ b
-lt! ρ {a} {b} c k e =
-    let h = certified ρ c k e in
-    let da = d-atom a in let db = d-atom b in d-lt (search diff) (omega (arith, of-le h (search diff)))
-
--- of (f + 1) (b - a) + f, beside one of f: the positive factor f + 1 is divided out
-pub le-times! :
-    (ρ : List ℤ) {a b f t : ℤ} → pos 0 ≤ℤ f → pos 0 ≤ℤ t → (k : Quo2 ρ ((f +ℤ pos 1) *ℤ (b -ℤ a) +ℤ f) t) → Same (k .left .poly) (k .right .poly) → a ≤ℤ b
-le-times! ρ {a} {b} {f} p c k e = gap-le (divided f (b -ℤ a) p (certified ρ c k e))
-  where
-    divided : (f g : ℤ) → pos 0 ≤ℤ f → pos 0 ≤ℤ ((f +ℤ pos 1) *ℤ g +ℤ f) → pos 0 ≤ℤ g
-    divided (pos m) (pos n) p h = g-num n
-    divided (pos m) (negsuc n) p h = let z : ⊥ = omega (arith, of-le h (search diff)) in absurd z
-    divided (negsuc m) g p h = absurd (p .le)
+pub lt! : (ρ : List ℤ) {a b t : ℤ} → pos 0 ≤ℤ t → (k : Quo ρ (b -ℤ a -ℤ pos 1 -ℤ t)) → Nothing (k .poly) → a <ℤ b
+lt! ρ {a} {b} {t} c k n =
+    let da = d-atom a in let db = d-atom b in let dt = d-atom t in
+    d-lt (search diff) (omega (arith, of-le c (search diff), of-eq (vanishes ρ k n) (search diff)))
 
 -- of -1: a contradiction
-pub false! : (ρ : List ℤ) {t : ℤ} → pos 0 ≤ℤ t → (k : Quo2 ρ (negsuc 0) t) → Same (k .left .poly) (k .right .poly) → ⊥
-false! ρ c k e = certified ρ c k e .le
+pub false! : (ρ : List ℤ) {t : ℤ} → pos 0 ≤ℤ t → (k : Quo ρ (negsuc 0 -ℤ t)) → Nothing (k .poly) → ⊥
+false! ρ {t} c k n = let dt = d-atom t in omega (arith, of-le c (search diff), of-eq (vanishes ρ k n) (search diff))

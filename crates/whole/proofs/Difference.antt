@@ -6,7 +6,7 @@ use mathlib.Core.Logic.{_↔_}
 use mathlib.Core.Bool.{Bool, true, false, not, cond}
 use Prim.Native.Nat.{ℕ, zero, suc, _+_, _*_, _-_, _≤_, _<_}
 use native.Mathlib.Omega.{arith}
-use lib.Dec.{T, ltb, ltb→lt, nltb→le, leb→le, le→leb, lt→ltb}
+use lib.Dec.{T, ltb, ltb→lt, nltb→le, leb→le, le→leb}
 use lib.IntN.{ℤ, pos, negsuc, negℤ, subℕ, _+ℤ_, _*ℤ_}
 use lib.Signed.{_≤ℤ_, _<ℤ_}
 
@@ -95,17 +95,11 @@ pub ruleset diff = (d-pos, d-negsuc, d-neg, d-add, d-mul, d-sides)
 
 -- ---- goals and facts between whole numbers, as ones between natural numbers
 
-le-is : (x y : ℤ) → (x ≤ℤ y) ↔ (up x + down y ≤ up y + down x)
-le-is (pos a) (pos b) = omega (arith, leb→le, le→leb)
-le-is (pos a) (negsuc b) = omega (arith, leb→le, le→leb)
-le-is (negsuc a) (pos b) = omega (arith, leb→le, le→leb)
-le-is (negsuc a) (negsuc b) = omega (arith, leb→le, le→leb)
-
-lt-is : (x y : ℤ) → (x <ℤ y) ↔ (up x + down y < up y + down x)
-lt-is (pos a) (pos b) = omega (arith, ltb→lt, lt→ltb)
-lt-is (pos a) (negsuc b) = omega (arith, ltb→lt, lt→ltb)
-lt-is (negsuc a) (pos b) = omega (arith, ltb→lt, lt→ltb)
-lt-is (negsuc a) (negsuc b) = omega (arith, ltb→lt, lt→ltb)
+orders : (x y : ℤ) → ((x ≤ℤ y) ↔ (up x + down y ≤ up y + down x)) × ((x <ℤ y) ↔ (up x + down y < up y + down x))
+orders (pos a) (pos b) = omega (arith, leb→le, le→leb)
+orders (pos a) (negsuc b) = omega (arith, leb→le, le→leb)
+orders (negsuc a) (pos b) = omega (arith, leb→le, le→leb)
+orders (negsuc a) (negsuc b) = omega (arith, leb→le, le→leb)
 
 eq-in : (x y : ℤ) → up x + down y ≡ up y + down x → x ≡ y
 eq-in (pos a) (pos b) e = ap pos (omega arith)
@@ -114,19 +108,19 @@ eq-in (negsuc a) (pos b) e = absurd (omega arith)
 eq-in (negsuc a) (negsuc b) e = ap negsuc (omega arith)
 
 pub d-le : {a b : ℤ} (k : Sides a b) → k .lower ≤ k .upper → a ≤ℤ b
-d-le {a} {b} k h = le-is a b .1 (omega (arith, k .is))
+d-le {a} {b} k h = orders a b .0 .1 (omega (arith, k .is))
 
 pub d-lt : {a b : ℤ} (k : Sides a b) → k .lower < k .upper → a <ℤ b
-d-lt {a} {b} k h = lt-is a b .1 (omega (arith, k .is))
+d-lt {a} {b} k h = orders a b .1 .1 (omega (arith, k .is))
 
 pub d-eq : {a b : ℤ} (k : Sides a b) → k .lower ≡ k .upper → a ≡ b
 d-eq {a} {b} k h = eq-in a b (omega (arith, k .is))
 
 pub of-le : {a b : ℤ} → a ≤ℤ b → (k : Sides a b) → k .lower ≤ k .upper
-of-le {a} {b} h k = omega (arith, k .is, le-is a b .0 h)
+of-le {a} {b} h k = omega (arith, k .is, orders a b .0 .0 h)
 
 pub of-lt : {a b : ℤ} → a <ℤ b → (k : Sides a b) → k .lower < k .upper
-of-lt {a} {b} h k = omega (arith, k .is, lt-is a b .0 h)
+of-lt {a} {b} h k = omega (arith, k .is, orders a b .1 .0 h)
 
 pub of-eq : {a b : ℤ} → a ≡ b → (k : Sides a b) → k .lower ≡ k .upper
 of-eq e k = omega (arith, k .is, ap up e, ap down e)

@@ -1,14 +1,12 @@
 -- The order of the whole numbers: laws ready to cite.
 -- That numerals, squares, and sums and products of what is not negative are not negative: `g-num`, `g-sq`, `⊞`, `⊠` of Certificate.
 use mathlib.Core.Path.{_≡_}
-use mathlib.Core.Bool.{not}
 use mathlib.Core.List.{[], _∷_}
 use Prim.Native.Nat.{ℕ, _*_, _≤_, _<_}
 use native.Mathlib.Omega.{arith}
 use lib.Dec.{not-T}
 use lib.IntN.{ℤ, pos, _*ℤ_}
 use lib.Signed.{_≤ℤ_, _<ℤ_, ltZ, ltZ-yes, ltZ-no}
-use mir.Facts.{T-not-not}
 use Rattle.whole.proofs.Difference.{diff, d-atom, d-le, d-lt, d-eq, of-le, of-lt}
 use Rattle.whole.proofs.Certificate.{quo, le!, false!, g-le, g-lt, g-num, _⊞_, _⊠_}
 
@@ -23,18 +21,12 @@ pub ≤-antisym : {a b : ℤ} → a ≤ℤ b → b ≤ℤ a → a ≡ b
 pub ≤-unless : (a b : ℤ) → (b <ℤ a → ⊥) → a ≤ℤ b
 ≤-unless a b f = ltZ-no (not-T (ltZ b a) (λ t. f (ltZ-yes t)))
 
-pub <-unless : (a b : ℤ) → (b ≤ℤ a → ⊥) → a <ℤ b
-<-unless a b f = ltZ-yes (T-not-not (ltZ a b) (not-T (not (ltZ a b)) (λ t. f (ltZ-no t))))
-
 -- ---- squares
 
 -- squares in order, with the larger number not negative, have their numbers in order
 pub sq-≤ : (t s : ℤ) → pos 0 ≤ℤ s → (t *ℤ t) ≤ℤ (s *ℤ s) → t ≤ℤ s
 sq-≤ t s p h =
     ≤-unless t s (λ q. false! (t ∷ s ∷ []) (g-le h ⊞ g-lt q ⊠ (g-lt q ⊞ g-num 2 ⊠ p ⊞ g-num 2) ⊞ g-num 2 ⊠ p) (search quo depth 40) tt)
-
-pub sq-< : (t s : ℤ) → pos 0 ≤ℤ s → (t *ℤ t) <ℤ (s *ℤ s) → t <ℤ s
-sq-< t s p h = <-unless t s (λ q. false! (t ∷ s ∷ []) (g-lt h ⊞ g-le q ⊠ (g-le q ⊞ g-num 2 ⊠ p)) (search quo depth 40) tt)
 
 -- ---- between the natural numbers and the whole numbers
 

@@ -1,11 +1,11 @@
--- Polynomials over whole numbers, as a form that computes: sums, products and what is left of a difference.
--- `same-total`: two polynomials come to the same where nothing is left of their difference.
+-- Polynomials over whole numbers, in a form that computes: sums, products, and the monomials that are left of one.
+-- `nothing-total`: a polynomial of which nothing is left comes to 0, whatever the unknowns are.
 use mathlib.Core.Path.{_≡_, refl, _∙_}
 use mathlib.Core.List.{List, [], _∷_, _++_}
 use Prim.Native.Nat.{ℕ, zero, suc}
 use native.Mathlib.Omega.{arith}
-use lib.IntN.{ℤ, pos, negsuc, negℤ, _+ℤ_, _-ℤ_, _*ℤ_, +ℤ-assoc}
-use Rattle.whole.proofs.Difference.{diff, d-atom, d-eq, of-eq}
+use lib.IntN.{ℤ, pos, negsuc, negℤ, _+ℤ_, _*ℤ_, +ℤ-assoc, +ℤ-comm, +ℤ-idr, *ℤ-zero}
+use Rattle.whole.proofs.Difference.{diff, d-atom, d-eq}
 
 -- ---- polynomials
 
@@ -30,9 +30,6 @@ times (con c) (con d) = con (c *ℤ d)
 times (con c) (more b a) = more (times (con c) b) (times (con c) a)
 times (more b a) q = plus (each (times b) q) (more (con (pos 0)) (times a q))
 
-abbrev pub opposite : Poly → Poly
-opposite p = times (con (negsuc 0)) p
-
 -- the unknown at place i
 abbrev pub unknown : ℕ → Poly
 unknown zero = more (con (pos 0)) (con (pos 1))
@@ -52,18 +49,15 @@ monomials i m (more b a) = monomials (suc i) m b ++ monomials i (i ∷ m) a
 -- nothing proves `Left`: a refusal prints what is left
 pub data Left (ms : List (ℤ × List ℕ)) : Type 0 where
 
-abbrev pub Nothing : List (ℤ × List ℕ) → Type 0
-Nothing [] = Unit {0}
-Nothing (m ∷ ms) = Left (m ∷ ms)
+abbrev pub None : List (ℤ × List ℕ) → Type 0
+None [] = Unit {0}
+None (m ∷ ms) = Left (m ∷ ms)
 
--- the difference of p and q comes to nothing: `tt` proves it, by computation
-abbrev pub Same : Poly → Poly → Type 0
-Same p q = Nothing (monomials 0 [] (plus p (opposite q)))
+-- nothing is left of p: `tt` proves it, by computation
+abbrev pub Nothing : Poly → Type 0
+Nothing p = None (monomials 0 [] p)
 
 -- ---- the identities of ℤ that the steps above rest on
-
-swapped : (b d t : ℤ) → (b +ℤ d) +ℤ t ≡ (b +ℤ t) +ℤ d
-swapped b d t = let db = d-atom b in let dd = d-atom d in let dt = d-atom t in d-eq (search diff) (omega arith)
 
 termwise : (b d x a c : ℤ) → (b +ℤ d) +ℤ x *ℤ (a +ℤ c) ≡ (b +ℤ x *ℤ a) +ℤ (d +ℤ x *ℤ c)
 termwise b d x a c =
@@ -75,17 +69,8 @@ scaled c b x a = let dc = d-atom c in let db = d-atom b in let dx = d-atom x in 
 split : (b x a q : ℤ) → b *ℤ q +ℤ (pos 0 +ℤ x *ℤ (a *ℤ q)) ≡ (b +ℤ x *ℤ a) *ℤ q
 split b x a q = let db = d-atom b in let dx = d-atom x in let da = d-atom a in let dq = d-atom q in d-eq (search diff) (omega arith)
 
-ended : (b x : ℤ) → b +ℤ x *ℤ pos 0 ≡ b
-ended b x = let db = d-atom b in let dx = d-atom x in d-eq (search diff) (omega arith)
-
 alone : (x : ℤ) → pos 0 +ℤ x *ℤ pos 1 ≡ x
 alone x = let dx = d-atom x in d-eq (search diff) (omega arith)
-
-minus-one : (x : ℤ) → negsuc 0 *ℤ x ≡ negℤ x
-minus-one x = let dx = d-atom x in d-eq (search diff) (omega arith)
-
-level : (x y : ℤ) → x -ℤ y ≡ pos 0 → x ≡ y
-level x y h = let dx = d-atom x in let dy = d-atom y in d-eq (search diff) (omega (arith, of-eq h (search diff)))
 
 -- ---- what a polynomial comes to where the unknowns are v 0, v 1, ..; each step keeps it
 
@@ -99,13 +84,13 @@ total v (more b a) = total (after v) b +ℤ v 0 *ℤ total v a
 pub plus-total : (v : ℕ → ℤ) (p q : Poly) → total v (plus p q) ≡ total v p +ℤ total v q
 plus-total v (con c) (con d) = refl
 plus-total v (con c) (more b a) = rw (plus-total (after v) (con c) b, +ℤ-assoc)
-plus-total v (more b a) (con d) = rw (plus-total (after v) b (con d)) (swapped (total (after v) b) d (v 0 *ℤ total v a))
+plus-total v (more b a) (con d) = rw (plus-total (after v) b (con d), +ℤ-assoc (total (after v) b) d, +ℤ-comm d, ← +ℤ-assoc)
 plus-total v (more b a) (more d c) = rw (plus-total (after v) b d, plus-total v a c, termwise)
 
 each-total :
     (v : ℕ → ℤ) (f : Poly → Poly) (c : ℤ) → ((q : Poly) → total (after v) (f q) ≡ c *ℤ total (after v) q) →
     (q : Poly) → total v (each f q) ≡ c *ℤ total v q
-each-total v f c h (con d) = rw (h (con d), ended)
+each-total v f c h (con d) = rw (h (con d), *ℤ-zero, +ℤ-idr)
 each-total v f c h (more b a) = rw (h b, each-total v f c h a, scaled)
 
 pub times-total : (v : ℕ → ℤ) (p q : Poly) → total v (times p q) ≡ total v p *ℤ total v q
@@ -115,26 +100,25 @@ times-total v (more b a) q =
     plus-total v (each (times b) q) (more (con (pos 0)) (times a q))
     ∙ rw (each-total v (times b) (total (after v) b) (times-total (after v) b) q, times-total v a q, split)
 
+pub opposite-total : (v : ℕ → ℤ) (p : Poly) → total v (times (con (negsuc 0)) p) ≡ negℤ (total v p)
+opposite-total v p =
+    times-total v (con (negsuc 0)) p ∙ (let dt = d-atom (total v p) in d-eq (search diff) (omega arith))
+
 pub unknown-total : (v : ℕ → ℤ) (i : ℕ) → total v (unknown i) ≡ v i
 unknown-total v zero = alone (v 0)
-unknown-total v (suc i) = ended (total (after v) (unknown i)) (v 0) ∙ unknown-total (after v) i
+unknown-total v (suc i) = rw (*ℤ-zero, +ℤ-idr) (unknown-total (after v) i)
 
-pub opposite-total : (v : ℕ → ℤ) (p : Poly) → total v (opposite p) ≡ negℤ (total v p)
-opposite-total v p = times-total v (con (negsuc 0)) p ∙ minus-one (total v p)
-
-halves : (ms ns : List (ℤ × List ℕ)) → Nothing (ms ++ ns) → Nothing ms × Nothing ns
+halves : (ms ns : List (ℤ × List ℕ)) → None (ms ++ ns) → None ms × None ns
 halves [] ns s = (tt, s)
 halves (m ∷ ms) ns s = elim s [ ]
 
-nothing-total : (v : ℕ → ℤ) (i : ℕ) (m : List ℕ) (p : Poly) → Nothing (monomials i m p) → total v p ≡ pos 0
-nothing-total v i m (con (pos zero)) s = refl
-nothing-total v i m (con (pos (suc n))) s = elim s [ ]
-nothing-total v i m (con (negsuc n)) s = elim s [ ]
-nothing-total v i m (more b a) s =
-    let h = halves (monomials (suc i) m b) (monomials i (i ∷ m) a) s in
-    rw (nothing-total (after v) (suc i) m b (h .0), nothing-total v i (i ∷ m) a (h .1), ended)
-
-pub same-total : (v : ℕ → ℤ) (p q : Poly) → Same p q → total v p ≡ total v q
-same-total v p q s =
-    level (total v p) (total v q)
-    (rw (← (opposite-total v q), ← (plus-total v p (opposite q))) (nothing-total v 0 [] (plus p (opposite q)) s))
+pub nothing-total : (v : ℕ → ℤ) (p : Poly) → Nothing p → total v p ≡ pos 0
+nothing-total v p s = from v 0 [] p s
+  where
+    from : (v : ℕ → ℤ) (i : ℕ) (m : List ℕ) (p : Poly) → None (monomials i m p) → total v p ≡ pos 0
+    from v i m (con (pos zero)) s = refl
+    from v i m (con (pos (suc n))) s = elim s [ ]
+    from v i m (con (negsuc n)) s = elim s [ ]
+    from v i m (more b a) s =
+        let h = halves (monomials (suc i) m b) (monomials i (i ∷ m) a) s in
+        rw (from (after v) (suc i) m b (h .0), from v i (i ∷ m) a (h .1), *ℤ-zero)

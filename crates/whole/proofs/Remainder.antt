@@ -35,13 +35,9 @@ divided : (s : ℤ) (b : ℕ) → s ≡ pos b *ℤ quotZ s (pos b) +ℤ remZ s (
 divided (pos a) b = d-eq (search diff) (omega (arith, div-add-mod a b))
 divided (negsuc a) b = d-eq (search diff) (omega (arith, div-add-mod (suc a) b))
 
-rem-above : (s : ℤ) (b : ℕ) → 0 < b → negℤ (pos b) <ℤ remZ s (pos b)
-rem-above (pos a) b p = d-lt (search diff) (omega arith)
-rem-above (negsuc a) b p = d-lt (search diff) (omega (arith, mod-lt (suc a) p))
-
-rem-below : (s : ℤ) (b : ℕ) → 0 < b → remZ s (pos b) <ℤ pos b
-rem-below (pos a) b p = d-lt (search diff) (omega (arith, mod-lt a p))
-rem-below (negsuc a) b p = d-lt (search diff) (omega arith)
+rem-size : (s : ℤ) (b : ℕ) → 0 < b → (negℤ (pos b) <ℤ remZ s (pos b)) × (remZ s (pos b) <ℤ pos b)
+rem-size (pos a) b p = (d-lt (search diff) (omega arith), d-lt (search diff) (omega (arith, mod-lt a p)))
+rem-size (negsuc a) b p = (d-lt (search diff) (omega (arith, mod-lt (suc a) p)), d-lt (search diff) (omega arith))
 
 -- ---- what is left
 
@@ -67,9 +63,9 @@ remainder s (pos b) h =
     record {
       negative = λ k. left-is s b p (q -ℤ pos 1) (r +ℤ pos b)
           (divided s b ∙ ring! (pos b ∷ q ∷ r ∷ []) (search quo depth 40) tt)
-          (le! (pos b ∷ r ∷ []) (g-lt (rem-above s b p) ⊞ g-num 1) (search quo depth 40) tt)
+          (le! (pos b ∷ r ∷ []) (g-lt (rem-size s b p .0) ⊞ g-num 1) (search quo depth 40) tt)
           (lt! (pos b ∷ r ∷ []) (g-lt k) (search quo depth 40) tt);
-      other = λ k. left-is s b p q r (divided s b) k (rem-below s b p);
+      other = λ k. left-is s b p q r (divided s b) k (rem-size s b p .1);
       within = small;
       fits = λ f. record { sfits = omega (arith, mag-le (rest s (pos b)), small .size, f .sfits) };
       quotient =
@@ -77,6 +73,6 @@ remainder s (pos b) h =
           let q = quotZ t (pos b) in
           let e = divided t b in
           ≤-antisym
-          (at-most b q (shrZ s b) (lt! (s ∷ pos b ∷ shrZ s b ∷ q ∷ remZ t (pos b) ∷ []) (g-lt (rem-above t b p) ⊞ g-eq e (negsuc 0)) (search quo depth 40) tt))
-          (at-most b (shrZ s b) q (lt! (s ∷ pos b ∷ shrZ s b ∷ q ∷ remZ t (pos b) ∷ []) (g-lt (rem-below t b p) ⊞ g-eq e (pos 1)) (search quo depth 40) tt));
+          (at-most b q (shrZ s b) (lt! (s ∷ pos b ∷ shrZ s b ∷ q ∷ remZ t (pos b) ∷ []) (g-lt (rem-size t b p .0) ⊞ g-eq e (negsuc 0)) (search quo depth 40) tt))
+          (at-most b (shrZ s b) q (lt! (s ∷ pos b ∷ shrZ s b ∷ q ∷ remZ t (pos b) ∷ []) (g-lt (rem-size t b p .1) ⊞ g-eq e (pos 1)) (search quo depth 40) tt));
     }

@@ -1,21 +1,18 @@
 -- The two roots: each computing form has its meaning, and no second number has it.
-use mathlib.Core.Path.{_≡_, refl}
+use mathlib.Core.Path.{_≡_}
 use mathlib.Core.Bool.{Bool, true, false, not}
 use Prim.Native.Nat.{ℕ, zero, suc, _+_, _*_, _/_, _≤_, _<_}
-use native.Mathlib.Nat.{le-antisymm}
-use native.Mathlib.Omega.{arith}
+use native.Mathlib.Nat.{le-antisymm, mul-le-mul}
+use native.Mathlib.Omega.{arith, by-contra}
 use lib.Dec.{T, leb, leb→le, nleb→lt}
-use lib.IntN.{pos}
 use Rattle.whole.specs.Root.{IsFloorRoot, IsRootUp, bump, fromQuarter, rootWithin, floorRoot, rootUp}
-use Rattle.whole.proofs.Certificate.{g-num}
-use Rattle.whole.proofs.Order.{sq-≤, sq-<, le-ℤ, lt-ℤ, le-ℕ, lt-ℕ}
 
 -- squares in order have their numbers in order
 pub sq-lt : (a b : ℕ) → a * a < b * b → a < b
-sq-lt a b h = lt-ℕ (sq-< (pos a) (pos b) (g-num b) (lt-ℤ h))
+sq-lt a b h = by-contra (suc a) b (λ k. let l : b ≤ a = omega arith in omega (arith, mul-le-mul l l))
 
 pub sq-le : (a b : ℕ) → a * a ≤ b * b → a ≤ b
-sq-le a b h = le-ℕ (sq-≤ (pos a) (pos b) (g-num b) (le-ℤ h))
+sq-le a b h = by-contra a b (λ k. let l : suc b ≤ a = omega arith in omega (arith, mul-le-mul l l))
 
 -- ---- rounded down
 
@@ -55,12 +52,3 @@ rootUp-is zero = record { reach = omega arith; least = λ v h. omega arith }
 rootUp-is (suc n) =
     let r = floorRoot-is n in
     record { reach = omega (arith, r .high); least = λ v h. sq-lt (floorRoot n) v (omega (arith, r .low, h)) }
-
--- an end of P11: 64 times the root of 2 is a little more than 90
-root-down : floorRoot 8192 ≡ 90
-unfolding floorRoot
-root-down = refl
-
-p11 : rootUp 8192 ≡ 91
-unfolding rootUp floorRoot
-p11 = refl

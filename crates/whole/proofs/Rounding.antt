@@ -1,18 +1,18 @@
 -- Rounding by d, proved once over d: the rule of document 01 has exactly one number, `roundBy` computes it,
--- and how far off and how large it is follows from `Near` alone.
-use mathlib.Core.Path.{_≡_, refl}
+-- and how far off it is follows from `Near` alone.
+use mathlib.Core.Path.{_≡_}
 use mathlib.Core.List.{[], _∷_}
 use Prim.Native.Nat.{ℕ, _+_, _/_, _%_, _≤_, _<_}
-use native.Mathlib.Nat.{div-add-mod, mod-lt, le-div-iff-mul-le}
+use native.Mathlib.Nat.{div-add-mod, mod-lt}
 use native.Mathlib.Omega.{arith}
 use lib.IntN.{ℤ, pos, negsuc, _+ℤ_, _-ℤ_, _*ℤ_}
 use lib.Signed.{_≤ℤ_, _<ℤ_, shrZ}
 use Rattle.whole.specs.Range.{Within}
 use Rattle.whole.specs.Round.{Rounded, Near, roundBy}
 use Rattle.whole.proofs.Difference.{diff, d-le, d-lt}
-use Rattle.whole.proofs.Certificate.{quo, ring!, le!, lt!, false!, g-le, g-lt, g-num, _⊞_, _⊠_}
+use Rattle.whole.proofs.Certificate.{quo, le!, lt!, false!, g-le, g-lt, g-num, _⊞_, _⊠_}
 use Rattle.whole.proofs.Order.{≤-antisym, ≤-unless, le-ℤ}
-use Rattle.whole.proofs.Size.{sub, along, abs-of, abs-mul}
+use Rattle.whole.proofs.Size.{abs-of}
 
 -- ---- the quotient rounded down: d times it is at most z, and d times one more is above
 
@@ -64,15 +64,6 @@ round-unique {d} {A} r t = ≤-antisym (one-way r t) (one-way t r)
         let half : d / 2 + d / 2 ≤ d = omega arith in
         at-most d y z (lt! (pos d ∷ h ∷ A ∷ y ∷ z ∷ []) (g-le (r .low) ⊞ g-lt (t .high) ⊞ g-le (le-ℤ half)) (search quo depth 40) tt)
 
--- P4 and P5 of document 01, which are -4 and -5 times 16384
-p4 : roundBy 131072 (negsuc 65535) ≡ pos 0
-unfolding roundBy
-p4 = refl
-
-p5 : roundBy 131072 (negsuc 81919) ≡ negsuc 0
-unfolding roundBy
-p5 = refl
-
 -- ---- what `Near` alone tells
 
 -- A is at most half of d away from d y
@@ -82,10 +73,3 @@ round-error {d} {A} {y} n =
     abs-of
     (le! (pos d ∷ h ∷ A ∷ y ∷ []) (g-le (n .low)) (search quo depth 40) tt)
     (le! (pos d ∷ h ∷ A ∷ y ∷ []) (g-le (n .high)) (search quo depth 40) tt)
-
--- how large a rounded number is
-pub round-bound : {d b : ℕ} {A y : ℤ} → 0 < d → Near d A y → Within b A → Within ((b + d / 2) / d) y
-round-bound {d} {b} {A} {y} p n w =
-    let e : pos d *ℤ y ≡ A -ℤ (A -ℤ pos d *ℤ y) = ring! (pos d ∷ A ∷ y ∷ []) (search quo depth 40) tt in
-    let k = along e (sub w (round-error n)) in
-    record { size = le-div-iff-mul-le p .1 (omega (arith, k .size, abs-mul (pos d) y)) }

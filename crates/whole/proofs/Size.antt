@@ -6,9 +6,9 @@ use native.Mathlib.Nat.{mul-le-mul}
 use native.Mathlib.Omega.{arith}
 use lib.Dec.{T, leb, ltb, leb→le, ltb→lt}
 use lib.IntN.{ℤ, pos, negsuc, negℤ, natAbs, _+ℤ_, _-ℤ_, _*ℤ_}
-use lib.Signed.{_≤ℤ_, mag, natAbs-le}
-use mir.Syntax.{Width, w64}
-use mir.Val.{SFits, hbits, toZ, ofZ}
+use lib.Signed.{_≤ℤ_, mag}
+use mir.Syntax.{w64}
+use mir.Val.{SFits, toZ, ofZ}
 use mir.Facts.{toZ-ofZ}
 use Rattle.whole.specs.Range.{Within}
 use Rattle.whole.proofs.Difference.{up, down, Diff, d-atom, d-neg, d-add, diff, of-le}
@@ -79,7 +79,3 @@ fit {b} {z} p t = record { sfits = omega (arith, p .size, mag-le z, ltb→lt b (
 -- what the machine reads back of its bits: `rd p tt`, for `simp`
 pub rd : {b : ℕ} {z : ℤ} → Within b z → T (ltb b (2 ^ 63)) → toZ w64 (ofZ w64 z) ≡ z
 rd p t = toZ-ofZ (fit p t)
-
--- a number that fits a width is bounded by it
-pub fitted : {w : Width} {z : ℤ} → SFits w z → Within (2 ^ hbits w) z
-fitted {z = z} f = record { size = natAbs-le z (f .sfits) }

@@ -11,12 +11,12 @@ use lib.ListN.{length}
 use mir.Syntax.{w16}
 use mir.Val.{SFits}
 use mir.Facts.{toZ-ofZ}
-use Rattle.whole.proofs.Size.{lit, fitted}
+use Rattle.whole.proofs.Size.{lit}
 use Rattle.plane.specs.Plane.{Inside}
 use Rattle.plane.proofs.Bounds.{inside-wider, inside-along}
 use Rattle.phasors.specs.Rate.{cosine, sine}
 use Rattle.phasors.specs.Sums.{sample, Summed}
-use Rattle.phasors.proofs.Weights.{summed-none, summed-next, inside-next}
+use Rattle.phasors.proofs.Weights.{fitted, summed-none, summed-next, inside-next}
 use Rattle.phasors.proofs.sums.Statement.{statement}
 use Rattle.phasors.proofs.sums.Tie as tie
 

@@ -6,8 +6,9 @@ use mir.Syntax.{w16, w64}
 use mir.Val.{SFits, toZ, ofZ}
 use mir.Facts.{toZ-ofZ}
 use Rattle.whole.specs.Range.{Within}
-use Rattle.whole.proofs.Size.{add, sub, mul, fit, rd, fitted}
+use Rattle.whole.proofs.Size.{add, sub, mul, fit, rd}
 use Rattle.phasors.specs.Sums.{withSample}
+use Rattle.phasors.proofs.Weights.{fitted}
 use Rattle.phasors.proofs.with_sample.Statement.{statement}
 use Rattle.phasors.proofs.with_sample.Tie as tie
 

@@ -12,7 +12,7 @@ use Rattle.whole.specs.Range.{Within}
 use Rattle.whole.specs.Round.{roundBy}
 use Rattle.whole.proofs.Size.{add, sub, along, fit, rd}
 use Rattle.whole.proofs.Machine.{divisor, quot-fits}
-use Rattle.whole.proofs.Remainder.{Remainder, remainder, rest}
+use Rattle.whole.proofs.Remainder.{remainder, rest}
 use Rattle.whole.proofs.round_by.Statement.{statement}
 use Rattle.whole.proofs.round_by.Tie as tie
 
@@ -39,9 +39,6 @@ add-s c = simp (rd (c .pre .1) tt, rd (c .pre .2) tt, rd (halved c) tt) (fit (sm
 floor-rem-requires : tie.Need-floor-rem-requires
 floor-rem-requires c κs = search needs
 
-left : (c : tie.Start) → Remainder (sum c) (c .args .d)
-left c = remainder (sum c) (c .args .d) (c .pre .0)
-
 -- what is left over
 left-over : (c : tie.After-floor-rem) → c .floor-rem .result ≡ rest (sum (c .before)) (c .before .args .d)
 left-over c =
@@ -51,7 +48,7 @@ left-over c =
 over-small : (c : tie.After-floor-rem) → Within (2 ^ 61) (c .floor-rem .result)
 over-small c =
     let s = c .before in
-    let over = along (left-over c) (left s .within) in
+    let over = along (left-over c) (remainder (sum s) (s .args .d) (s .pre .0) .within) in
     record { size = omega (arith, over .size, s .pre .2 .size) }
 
 sub-result : tie.Need-sub-result
@@ -76,7 +73,7 @@ returns c =
     let h = s .pre in
     let even = sub (small s) (over-small c) in
     simp (rd (h .1) tt, rd (h .2) tt, rd (halved s) tt, rd (small s) tt, rd (over-small c) tt, rd even tt, toZ-ofZ (quot-fits (h .0) (fit even tt)))
-    (rw (left-over c, ← (half (s .args .d) (h .0))) (left s .quotient))
+    (rw (left-over c, ← (half (s .args .d) (h .0))) (remainder (sum s) (s .args .d) (h .0) .quotient))
 
 pub round-by-spec : {M : Type 1} → statement M
 round-by-spec = tie.close (tie.spec div-s add-s floor-rem-requires sub-result div-result returns)
