@@ -25,6 +25,7 @@ pub record Remainder (s d : ℤ) : Type 0 where
   -- a negative remainder of the machine's is d too small, any other is right
   pub negative : remZ s d <ℤ pos 0 → remZ s d +ℤ d ≡ rest s d
   pub other : pos 0 ≤ℤ remZ s d → remZ s d ≡ rest s d
+  -- it is no larger than d, and d goes into what was taken off exactly
   pub within : Within (natAbs d) (rest s d)
   pub fits : SFits w64 d → SFits w64 (rest s d)
   pub quotient : quotZ (s -ℤ rest s d) d ≡ shrZ s (natAbs d)
@@ -42,7 +43,7 @@ rem-size (negsuc a) b p = (d-lt (search diff) (omega (arith, mod-lt (suc a) p)),
 -- ---- what is left
 
 module _ (s : ℤ) (b : ℕ) (p : 0 < b) where
-  -- a number from 0 to b - 1 is left, if b times some other makes up s with it
+  -- a number from 0 to b - 1 that makes up s with a multiple of b is what is left
   left-is : (q r : ℤ) → s ≡ pos b *ℤ q +ℤ r → pos 0 ≤ℤ r → r <ℤ pos b → r ≡ rest s (pos b)
   left-is q r e low high =
       let f = shrZ s b in
@@ -71,8 +72,8 @@ remainder s (pos b) h =
       quotient =
           let t = s -ℤ rest s (pos b) in
           let q = quotZ t (pos b) in
-          let e = divided t b in
+          let all = s ∷ pos b ∷ shrZ s b ∷ q ∷ remZ t (pos b) ∷ [] in
           ≤-antisym
-          (at-most b q (shrZ s b) (lt! (s ∷ pos b ∷ shrZ s b ∷ q ∷ remZ t (pos b) ∷ []) (g-lt (rem-size t b p .0) ⊞ g-eq e (negsuc 0)) (search quo depth 40) tt))
-          (at-most b (shrZ s b) q (lt! (s ∷ pos b ∷ shrZ s b ∷ q ∷ remZ t (pos b) ∷ []) (g-lt (rem-size t b p .1) ⊞ g-eq e (pos 1)) (search quo depth 40) tt));
+          (at-most b q (shrZ s b) (lt! all (g-lt (rem-size t b p .0) ⊞ g-eq (divided t b) (negsuc 0)) (search quo depth 40) tt))
+          (at-most b (shrZ s b) q (lt! all (g-lt (rem-size t b p .1) ⊞ g-eq (divided t b) (pos 1)) (search quo depth 40) tt));
     }
