@@ -6,6 +6,7 @@ from pathlib import Path
 from tree import blank, fault, faults, read, sources
 
 HEADER = Path('include/gorsepetal.h')
+TABLE = Path('crates/settings/specs/Table.antt')
 C_TYPES = {'usize': 'size_t', **{f'{kind}{bits}': f'{"u" * (kind == "u")}int{bits}_t' for kind in 'ui' for bits in (8, 16, 32, 64)}}
 
 
@@ -123,16 +124,16 @@ def check_number_table():
 
 
 def check_settings_table():
-    """The table of fields has the rows of crates/settings; bytes in a row with one range are one row."""
+    """The table of fields has the rows of the table of crates/settings; bytes in a row with one range are one row."""
     text = read(HEADER)
-    source = ''.join(rt for _, rt in sources('settings'))
-    rules = [(kind, *map(int, numbers.split(','))) for kind, numbers in re.findall(r'Rule::(Unsigned|Signed|Byte)\(([-\d, ]+)\)', source)]
+    table = re.sub(r'\((minus|pos) (\d+)\)', lambda m: '-' * (m[1] == 'minus') + m[2], read(TABLE))
+    rules = [(kind, *map(int, numbers.split())) for kind, numbers in re.findall(r'\b(Unsigned|Signed|Byte)((?: -?\d+){3})', table)]
     wanted = [next(group)[1:] for _, group in groupby(rules, key=lambda r: r if r[0] != 'Byte' else (r[0], *r[2:]))]
     rows = list(re.finditer(r'^\*\*   (\d+)\s+\S.*?\s(-?\d+)\s+(-?\d+)$', text, flags=re.MULTILINE))
     found = [tuple(map(int, m.groups())) for m in rows]
     if found != wanted:
         fault(HEADER, text, rows[0].start() if rows else 0, f'the table of fields has {found}; crates/settings has {wanted}')
-    for low, high in re.findall(r'Rule::Squares\(\d+, \d+, (\d+), (\d+)\)', source):
+    for low, high in re.findall(r'\bSquares \d+ \d+ (\d+) (\d+)', table):
         if not re.search(rf'\b{low}\b.*\b{high}\b', text):
             fault(HEADER, text, 0, f'the sum of squares, {low} to {high}, is not in the manual')
     return len(rows)

@@ -1,4 +1,4 @@
--- What a done entry shows, and that both records of a pair stay 32 bytes long.
+-- What a done entry shows, that its answer can stand for the verdict on it, and that both records of a pair stay 32 bytes long.
 use Prim.Native.Nat.{ℕ}
 use mathlib.Core.Path.{_≡_, refl, sym, ap, _∙_}
 use mathlib.Core.List.{List}
@@ -14,7 +14,7 @@ use Rattle.lent.specs.declared.Compared.{Compared}
 use Rattle.lent.specs.declared.Compared.the-variants.{Same, Differ}
 use Rattle.lent.specs.Lent.{compared}
 use Rattle.entry.specs.Pair.{Pair, nothing}
-use Rattle.entry.specs.Entry.{present, ofCompare, proposeAnswer, proposed, confirmAnswer, confirmed}
+use Rattle.entry.specs.Entry.{present, ofCompare, proposeAnswer, proposed, confirmAnswer, confirmed, Proposed}
 
 pub propose-done : (v : Answer) (e : List ℕ) → isDone (proposeAnswer v e) ≡ true → (length e ≡ 32) × (v ≡ Done)
 propose-done v e t = by-test (eqb (length e) 32) refl t
@@ -33,6 +33,18 @@ confirm-done v p e t = by-tests (eqb (length e) 32) (isDone v) (compared (p .pen
     by-tests true true (Differ k) l y t = absurd (false≢true t)
     by-tests true false c l y t = absurd (false≢true (sym y ∙ t))
     by-tests false d c l y t = absurd (false≢true t)
+
+-- what propose answers to an entry stands for the verdict on it: of one that is not 32 bytes the verdict does not matter
+module _ (v : Answer) (e : List ℕ) where
+  answer-again : proposeAnswer (proposeAnswer v e) e ≡ proposeAnswer v e
+  answer-again = by-test (eqb (length e) 32)
+    where
+      by-test : (b : Bool) → cond b (cond b v EntryLength) EntryLength ≡ cond b v EntryLength
+      by-test true = refl
+      by-test false = refl
+
+  pub by-answer : {at : ℕ} {s : List ℕ} {r : Answer} {after : List ℕ} → Proposed (proposeAnswer v e) at s e r after → Proposed v at s e r after
+  by-answer p = record { answer = p .answer ∙ answer-again; state = rw answer-again at (p .state) }
 
 -- a record that is present has a good verdict
 pub present-done : (v absent : Answer) → isDone absent ≡ false → present v absent ≡ Done → v ≡ Done

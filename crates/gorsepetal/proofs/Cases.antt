@@ -14,7 +14,7 @@ use Rattle.lent.specs.Lent.{over}
 use Rattle.samples.specs.Window.{windowLength}
 use Rattle.settings.specs.Fields.{Ranges, ends}
 use Rattle.entry.specs.Entry as entry
-use Rattle.entry.proofs.Done.{present-done}
+use Rattle.entry.proofs.Done.{by-answer, present-done}
 use Rattle.decision.specs.Decide as decision
 use Rattle.gorsepetal.specs.State.{stateLength, settingsOf}
 use Rattle.gorsepetal.specs.Calls.{verdict, standing, inForce, windowBytes, Proposed, Confirmed, ReadBack, DecidedNumbers}
@@ -28,10 +28,11 @@ module _ {s e after : List ℕ} {n : ℕ} where
   confirm-17 l g k = let t = ne-eqb (length s) stateLength l in record { given = rw t g; state = rw t k }
 
   module _ {a v : Answer} (l : length s ≡ stateLength) (g : n ≡ givenBack a) where
-    pub propose-entry : v ≡ verdict e → entry.Proposed v 0 s e a after → Proposed s e n after
+    pub propose-entry : v ≡ entry.proposeAnswer (verdict e) e → entry.Proposed v 0 s e a after → Proposed s e n after
     propose-entry f p =
         let t = eq-eqb (length s) stateLength l in
-        record { given = rw (t, ← f) (g ∙ ap givenBack (p .answer)); state = rw (t, ← f) (p .state) }
+        let q = by-answer (verdict e) e (rw f at p) in
+        record { given = rw t (g ∙ ap givenBack (q .answer)); state = rw t (q .state) }
 
     pub confirm-entry : v ≡ standing s → entry.Confirmed v 0 s e a after → Confirmed s e n after
     confirm-entry f p =

@@ -4,7 +4,8 @@ ghost use mathlib.Core.Path.{_≡_};
 ghost use Prim.Native.Nat.{_*_, _≤_};
 ghost use lib.ListN.{length};
 ghost use Rattle.samples.specs.Window.{windowLength};
-ghost use Rattle.entry.specs.Entry.{present};
+ghost use Rattle.entry.specs.Pair.{recordLength};
+ghost use Rattle.entry.specs.Entry.{proposeAnswer, present};
 ghost use Rattle.gorsepetal.specs.State.{stateLength};
 ghost use Rattle.gorsepetal.specs.Calls.{verdict, inForce, windowBytes, Proposed, Confirmed, ReadBack, DecidedNumbers, Decided};
 use answers::Answer;
@@ -20,10 +21,13 @@ const PENDING: usize = MAIN + RECORD_LENGTH;
 
 const MAIN_END: usize = PENDING + RECORD_LENGTH;
 
-// What propose answers to a record of 32 bytes.
+// What propose answers to an entry.
 fn verdict(r: &[u8]) -> Answer
-    ensures { λ a. ⌜ a ≡ verdict (now (r .entry)) ⌝ }
+    ensures { λ a. ⌜ a ≡ proposeAnswer (verdict (now (r .entry))) (now (r .entry)) ⌝ }
 {
+    if r.len() != RECORD_LENGTH {
+        return Answer::EntryLength;
+    }
     match settings::check(r) {
         Checked::Good => Answer::Done,
         Checked::Bad(at) => Answer::OutOfRange(at),
@@ -32,6 +36,7 @@ fn verdict(r: &[u8]) -> Answer
 
 // Whether a stored record counts: done if propose would accept it, else the refusal for an absent one.
 fn present(r: &[u8], absent: Answer) -> Answer
+    requires { ⌜ length (now r) ≡ recordLength ⌝ }
     ensures { λ a. ⌜ a ≡ present (verdict (now (r .entry))) absent ⌝ }
 {
     if answers::is_done(verdict(r)) {

@@ -10,9 +10,8 @@ use lib.IntN.{ℤ}
 use lib.Signed.{leZ}
 use Rattle.whole.proofs.Rows.{_&_}
 use Rattle.whole.proofs.Machine.{le-true, lt-true, true-le, true-lt}
-use Rattle.settings.specs.declared.Rule.{Rule}
 use Rattle.settings.specs.declared.Checked.the-variants.{Good, Bad}
-use Rattle.settings.specs.Table.{table}
+use Rattle.settings.specs.Table.{Rule, table}
 use Rattle.settings.specs.Check.{within, withinSigned, holds, place, checkedBy, AllHold, FirstFault, here, later, checked}
 use Rattle.settings.specs.Fields.{From, FromSigned, Ranges}
 

@@ -1,5 +1,5 @@
 -- What belongs to no one function.
 pub mod TwosComplement
-pub mod Cases
+pub mod Chain
 pub mod Good
 pub mod Examples

@@ -7,12 +7,10 @@ use lib.ListN.{getD}
 use lib.IntN.{ℤ}
 use lib.Signed.{leZ, ltZ}
 use lib.Dec.{leb}
-use Rattle.settings.specs.declared.Rule.{Rule}
-use Rattle.settings.specs.declared.Rule.the-variants.{Unsigned, Signed, Squares, Below, Byte}
 use Rattle.settings.specs.declared.Checked.{Checked}
 use Rattle.settings.specs.declared.Checked.the-variants.{Good, Bad}
 use Rattle.settings.specs.Record.{fieldAt, signedAt}
-use Rattle.settings.specs.Table.{table}
+use Rattle.settings.specs.Table.{Rule, Unsigned, Signed, Squares, Below, Byte, table}
 
 -- From a least to a greatest number.
 abbrev pub within : ℕ → ℕ → ℕ → Bool
@@ -55,3 +53,12 @@ pub data FirstFault : List Rule → List ℕ → ℕ → Type 0 where
 -- What the check of a record finds.
 abbrev pub checked : List ℕ → Checked
 checked s = checkedBy table s
+
+-- What a test finds: nothing where a rule is kept, else a fault at an offset.
+abbrev pub judged : Bool → ℕ → Checked
+judged kept at = cond kept Good (Bad at)
+
+-- What was found, with one rule more: a first fault stays.
+unfoldable pub after : Checked → List ℕ → Rule → Checked
+after (Bad k) s r = Bad k
+after Good s r = judged (holds s r) (place r)

@@ -1,10 +1,22 @@
 -- Document 01, "Settings record": the table as data, in the order of the checks. A sum-of-squares fault is at 18 and zf not below zr at
 -- 22, each found when that offset's own range has passed; each spare byte is at its own offset.
+use Prim.Native.Nat.{ℕ}
 use mathlib.Core.List.{List, [], _∷_}
-use lib.IntN.{pos}
-use Rattle.settings.specs.declared.Rule.{Rule}
-use Rattle.settings.specs.declared.Rule.the-variants.{Unsigned, Signed, Squares, Below, Byte}
+use lib.IntN.{ℤ, pos}
 use Rattle.settings.specs.Record.{minus}
+
+-- One rule of the table.
+pub data Rule : Type 0 where
+  -- the field at an offset, from a least to a greatest number
+  Unsigned : (at low high : ℕ) → Rule
+  -- the same of a signed field
+  Signed : (at : ℕ) (low high : ℤ) → Rule
+  -- the sum of the squares of two fields, from a least to a greatest number
+  Squares : (x y low high : ℕ) → Rule
+  -- a signed field below another
+  Below : (x y : ℕ) → Rule
+  -- the byte at an offset, from a least to a greatest number
+  Byte : (at low high : ℕ) → Rule
 
 unfoldable pub table : List Rule
 table =

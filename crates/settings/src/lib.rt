@@ -1,63 +1,20 @@
-// The settings record of document 01: its table, its check, its fields.
+// The settings record of document 01: its check, and its fields. The table of its rules is specs/Table.antt.
 ghost use mathlib.Core.Path.{_≡_};
 ghost use Prim.Native.Nat.{_+_, _*_, _<_};
-ghost use lib.ListN.{getD};
-ghost use Rattle.settings.specs.Record.{fieldAt, signedAt};
-ghost use Rattle.settings.specs.Table.{table};
-ghost use Rattle.settings.specs.Check.{within, withinSigned, holds, place, checked};
+ghost use lib.ListN.{length, getD};
+ghost use Rattle.settings.specs.Record.{recordLength, fieldAt, signedAt};
+ghost use Rattle.settings.specs.Table.{Unsigned, Signed, Squares, Below, Byte};
+ghost use Rattle.settings.specs.Check.{within, withinSigned, judged, after, checked};
 
 pub mod fields; // the fields by name
 
-// One rule of the table. An offset is a u8, so that the byte after it has one too.
-pub enum Rule {
-    // the field at an offset, from a least to a greatest number
-    Unsigned(u8, u64, u64),
-    // the same of a signed field
-    Signed(u8, i64, i64),
-    // the sum of the squares of two fields, from a least to a greatest number
-    Squares(u8, u8, u64, u64),
-    // a signed field below another
-    Below(u8, u8),
-    // the byte at an offset, from a least to a greatest number
-    Byte(u8, u64, u64),
-}
+// How many bytes a record has.
+const LENGTH: usize = 32;
 
 // What a check finds: a good record, or the offset of the first fault.
 pub enum Checked {
     Good,
     Bad(u8),
-}
-
-// How many rules the table has.
-const RULES: usize = 21;
-
-// The table, in the order of the checks; specs/Table.antt names each row's field.
-fn rules() -> [Rule; RULES]
-    ensures { λ r. ⌜ r ≡ table ⌝ }
-{
-    [
-        Rule::Unsigned(0, 2, 6),
-        Rule::Unsigned(2, 1, 100),
-        Rule::Unsigned(4, 1, 42000),
-        Rule::Unsigned(6, 0, 20000),
-        Rule::Unsigned(8, 1, 20000),
-        Rule::Unsigned(10, 1, 2000),
-        Rule::Unsigned(12, 0, 1000),
-        Rule::Signed(14, -500, 500),
-        Rule::Unsigned(16, 0, 1000),
-        Rule::Unsigned(18, 0, 1000),
-        Rule::Squares(16, 18, 998000, 1002000),
-        Rule::Signed(20, -20000, 20000),
-        Rule::Signed(22, -20000, 20000),
-        Rule::Below(20, 22),
-        Rule::Unsigned(24, 1, 42000),
-        Rule::Byte(26, 0, 0),
-        Rule::Byte(27, 0, 0),
-        Rule::Byte(28, 0, 0),
-        Rule::Byte(29, 0, 0),
-        Rule::Byte(30, 0, 0),
-        Rule::Byte(31, 0, 0),
-    ]
 }
 
 // A byte as a number.
@@ -111,49 +68,108 @@ fn between_signed(v: i64, low: i64, high: i64) -> bool
 }
 
 // What the squares of two 16-bit numbers come to.
-fn squares(x: u64, y: u64) -> u64
+fn sum_of_squares(x: u64, y: u64) -> u64
     requires { ⌜ (x < 65536) × (y < 65536) ⌝ }
     ensures { λ r. ⌜ r ≡ x * x + y * y ⌝ }
 {
     x * x + y * y
 }
 
-// Whether a record keeps a rule.
-fn kept(s: &[u8], rule: Rule) -> bool
-    ensures { λ r. ⌜ r ≡ holds (now (s .entry)) rule ⌝ }
+// What a test finds: nothing where the rule is kept, else a fault at an offset.
+fn judged(kept: bool, at: u8) -> Checked
+    ensures { λ r. ⌜ r ≡ judged kept at ⌝ }
 {
-    match rule {
-        Rule::Unsigned(at, low, high) => between(field(s, at), low, high),
-        Rule::Signed(at, low, high) => between_signed(signed_field(s, at), low, high),
-        Rule::Squares(x, y, low, high) => between(squares(field(s, x), field(s, y)), low, high),
-        Rule::Below(x, y) => signed_field(s, x) < signed_field(s, y),
-        Rule::Byte(at, low, high) => between(byte(s, at as usize), low, high),
+    if kept {
+        Checked::Good
+    } else {
+        Checked::Bad(at)
     }
 }
 
-// The offset at which a fault is reported: of a rule on two fields, the later one's.
-fn place(rule: Rule) -> u8
-    ensures { λ r. ⌜ r ≡ place rule ⌝ }
+// One function for each kind of rule, which goes on from what the earlier rules found: a first fault stays. A test is made only where
+// there is none yet: so it becomes a branch, and a good record passes each rule in a few instructions. An offset is a u8, so that the byte
+// after it has one too.
+
+// The field at an offset is from a least to a greatest number.
+fn unsigned(found: Checked, s: &[u8], at: u8, low: u64, high: u64) -> Checked
+    ensures { λ r. ⌜ r ≡ after found (now (s .entry)) (Unsigned at low high) ⌝ }
 {
-    match rule {
-        Rule::Unsigned(at, _, _) => at,
-        Rule::Signed(at, _, _) => at,
-        Rule::Squares(_, at, _, _) => at,
-        Rule::Below(_, at) => at,
-        Rule::Byte(at, _, _) => at,
+    match found {
+        Checked::Bad(k) => Checked::Bad(k),
+        Checked::Good => judged(between(field(s, at), low, high), at),
     }
 }
 
-// The first fault of a record. Of a shorter slice the missing bytes read as 0; who lends an entry sees to its length.
-pub fn check(s: &[u8]) -> Checked
-    ensures { λ r. ⌜ r ≡ checked (now (s .entry)) ⌝ }
+// The same of a signed field.
+fn signed(found: Checked, s: &[u8], at: u8, low: i64, high: i64) -> Checked
+    ensures { λ r. ⌜ r ≡ after found (now (s .entry)) (Signed at low high) ⌝ }
 {
-    let table = rules();
-    for i in 0..RULES {
-        let rule = table[i];
-        if !kept(s, rule) {
-            return Checked::Bad(place(rule));
+    match found {
+        Checked::Bad(k) => Checked::Bad(k),
+        Checked::Good => judged(between_signed(signed_field(s, at), low, high), at),
+    }
+}
+
+// The sum of the squares of two fields is from a least to a greatest number; a fault is at the later one.
+fn squares(found: Checked, s: &[u8], x: u8, y: u8, low: u64, high: u64) -> Checked
+    ensures { λ r. ⌜ r ≡ after found (now (s .entry)) (Squares x y low high) ⌝ }
+{
+    match found {
+        Checked::Bad(k) => Checked::Bad(k),
+        Checked::Good => {
+            let sum = sum_of_squares(field(s, x), field(s, y));
+            judged(between(sum, low, high), y)
         }
     }
-    Checked::Good
+}
+
+// A signed field is below another; a fault is at the later one.
+fn below(found: Checked, s: &[u8], x: u8, y: u8) -> Checked
+    ensures { λ r. ⌜ r ≡ after found (now (s .entry)) (Below x y) ⌝ }
+{
+    match found {
+        Checked::Bad(k) => Checked::Bad(k),
+        Checked::Good => judged(signed_field(s, x) < signed_field(s, y), y),
+    }
+}
+
+// The byte at an offset is from a least to a greatest number.
+fn one_byte(found: Checked, s: &[u8], at: u8, low: u64, high: u64) -> Checked
+    ensures { λ r. ⌜ r ≡ after found (now (s .entry)) (Byte at low high) ⌝ }
+{
+    match found {
+        Checked::Bad(k) => Checked::Bad(k),
+        Checked::Good => judged(between(byte(s, at as usize), low, high), at),
+    }
+}
+
+// The first fault of a record: the rules of the table, in its order.
+pub fn check(s: &[u8]) -> Checked
+    requires { ⌜ length (now s) ≡ recordLength ⌝ }
+    ensures { λ r. ⌜ r ≡ checked (now (s .entry)) ⌝ }
+{
+    let record = &s[0..LENGTH]; // a slice whose length the compiler knows, so that no byte's place is tested
+    let found = Checked::Good;
+    let found = unsigned(found, record, 0, 2, 6); // ends N
+    let found = unsigned(found, record, 2, 1, 100); // slope K, percent
+    let found = unsigned(found, record, 4, 1, 42000); // differential pickup, counts
+    let found = unsigned(found, record, 6, 0, 20000); // replica impedance real, thousandths
+    let found = unsigned(found, record, 8, 1, 20000); // and imaginary
+    let found = unsigned(found, record, 10, 1, 2000); // reach r, thousandths of the replica
+    let found = unsigned(found, record, 12, 0, 1000); // k real, thousandths
+    let found = signed(found, record, 14, -500, 500); // and imaginary
+    let found = unsigned(found, record, 16, 0, 1000); // line angle D real
+    let found = unsigned(found, record, 18, 0, 1000); // and imaginary
+    let found = squares(found, record, 16, 18, 998000, 1002000); // their sum of squares
+    let found = signed(found, record, 20, -20000, 20000); // forward limit zf
+    let found = signed(found, record, 22, -20000, 20000); // reverse limit zr
+    let found = below(found, record, 20, 22); // zf < zr
+    let found = unsigned(found, record, 24, 1, 42000); // pickup of 3I2, counts
+    let found = one_byte(found, record, 26, 0, 0); // zero bytes
+    let found = one_byte(found, record, 27, 0, 0);
+    let found = one_byte(found, record, 28, 0, 0);
+    let found = one_byte(found, record, 29, 0, 0);
+    let found = one_byte(found, record, 30, 0, 0);
+    let found = one_byte(found, record, 31, 0, 0);
+    found
 }

@@ -1,6 +1,7 @@
 -- `gorsepetal::present` meets its contract: the test on the verdict picks the case. Assumes nothing.
 use mathlib.Core.Path.{sym, ap, _∙_}
 use borrow.Author.Needs.{needs}
+use borrow.Author.Tests.{eq-eqb}
 use Rattle.answers.specs.Answers.{isDone}
 use Rattle.gorsepetal.proofs.present.Statement.{statement}
 use Rattle.gorsepetal.proofs.present.Tie as tie
@@ -13,11 +14,15 @@ is-done-requires c κs = search needs
 
 returns : tie.Need-returns
 returns c =
-    let k = c .before in rw (sym (ap isDone (k .before .verdict .ensures)) ∙ sym (k .is-done .ensures) ∙ c .if1 .taken)
+    let k = c .before .before in
+    let v = rw (eq-eqb _ 32 (k .before .before .pre)) at (k .verdict .ensures) in
+    rw (sym (ap isDone v) ∙ sym (c .before .is-done .ensures) ∙ c .if1 .taken)
 
 returns-2 : tie.Need-returns-2
 returns-2 c =
-    let k = c .before in rw (sym (ap isDone (k .before .verdict .ensures)) ∙ sym (k .is-done .ensures) ∙ c .if1 .left)
+    let k = c .before .before in
+    let v = rw (eq-eqb _ 32 (k .before .before .pre)) at (k .verdict .ensures) in
+    rw (sym (ap isDone v) ∙ sym (c .before .is-done .ensures) ∙ c .if1 .left)
 
 pub present-spec : {M : Type 1} → statement M
 present-spec = tie.close (tie.spec verdict-requires is-done-requires returns returns-2)

@@ -1,9 +1,13 @@
--- `gorsepetal::verdict` meets its contract: what the check found decides it. Assumes nothing.
+-- `gorsepetal::verdict` meets its contract: the length decides it, and then what the check found. Assumes nothing.
 use mathlib.Core.Path.{sym, ap, _∙_}
 use borrow.Author.Needs.{needs}
+use borrow.Author.Tests.{eq-eqb, ne-eqb}
 use Rattle.gorsepetal.specs.Calls.{ofCheck}
 use Rattle.gorsepetal.proofs.verdict.Statement.{statement}
 use Rattle.gorsepetal.proofs.verdict.Tie as tie
+
+returns : tie.Need-returns
+returns c = rw (ne-eqb _ 32 (c .if1 .taken))
 
 check-requires : tie.Need-check-requires
 check-requires c κs = search needs
@@ -14,11 +18,14 @@ enum-told c = search needs
 enum-known-at : tie.Need-enum-known-at
 enum-known-at c = search needs
 
-returns : tie.Need-returns
-returns c = ap ofCheck (sym (c .enum-told .given .1) ∙ c .before .before .check .ensures)
-
 returns-2 : tie.Need-returns-2
-returns-2 c = ap ofCheck (sym (c .before .at .given .1) ∙ c .before .before .before .check .ensures)
+returns-2 c =
+    let k = c .before .before in rw (eq-eqb _ 32 (k .before .if1 .left)) (ap ofCheck (sym (c .enum-told .given .1) ∙ k .check .ensures))
+
+returns-3 : tie.Need-returns-3
+returns-3 c =
+    let k = c .before .before .before in rw (eq-eqb _ 32 (k .before .if1 .left)) (ap ofCheck (sym (c .before .at .given .1) ∙ k .check .ensures))
 
 pub verdict-spec : {M : Type 1} → statement M
-verdict-spec = tie.close (tie.spec check-requires enum-told enum-known-at returns returns-2)
+verdict-spec =
+    tie.close (tie.spec returns check-requires enum-told enum-known-at returns-2 returns-3)

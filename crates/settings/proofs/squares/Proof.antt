@@ -1,25 +1,25 @@
--- `settings::squares` meets its contract: the square of a 16-bit number fits 32 bits. Assumes nothing.
-use Prim.Native.Nat.{ℕ, _*_, _<_, _≤_}
-use native.Mathlib.Nat.{mul-le-mul}
-use native.Mathlib.Omega.{arith}
+-- `settings::squares` meets its contract: a first fault stays, else the test decides. Assumes nothing.
 use borrow.Author.Needs.{needs}
+use Rattle.settings.specs.Check.{after}
 use Rattle.settings.proofs.squares.Statement.{statement}
 use Rattle.settings.proofs.squares.Tie as tie
 
-small : {x : ℕ} → x < 65536 → x * x ≤ 65536 * 65536
-small {x} h = mul-le-mul {n₁ = x} {m₁ = x} {n₂ = 65536} {m₂ = 65536} (omega arith) (omega arith)
-
-mul-result : tie.Need-mul-result
-mul-result c = omega (arith, small (c .pre .0))
-
-mul-result-2 : tie.Need-mul-result-2
-mul-result-2 c = omega (arith, small (c .pre .1))
-
-add-result : tie.Need-add-result
-add-result c = omega (arith, small (c .pre .0), small (c .pre .1))
-
 returns : tie.Need-returns
-returns c = search needs
+unfolding after
+returns c = rw (c .before .found .given .1)
+
+returns-2 : tie.Need-returns-2
+unfolding after
+returns-2 c =
+    let b = c .before in
+    let x = b .before .before .before in
+    let h = rw (b .between .ensures, b .before .sum-of-squares .ensures, x .field .ensures .0, b .before .before .field2 .ensures .0) at (c .judged .ensures) in
+    rw (x .before .enum-told .given .1) h
 
 pub squares-spec : {M : Type 1} → statement M
-squares-spec = tie.close (tie.spec mul-result mul-result-2 add-result returns)
+squares-spec =
+    tie.close
+    (tie.spec
+    (λ c. search needs) (λ c. search needs)
+    (λ c κs. search needs) (λ c κs. search needs) (λ c κs. search needs) (λ c κs. search needs) (λ c κs. search needs)
+    returns returns-2)
