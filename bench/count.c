@@ -1,56 +1,71 @@
 /*
-** Counts the instructions that a function executes, by single steps: a child process calls it, the parent steps through the child and
-** counts from the function's first instruction to its return. The count is the same in every run on one machine; each turn of a repeated
-** string instruction is a step. For Linux on x86-64.
+** Counts the instructions that a function executes, by the processor's trap flag: while it is set, each instruction raises a signal, whose
+** handler sees where the program stands. The count is the same in every run; each turn of a repeated string instruction is one. It needs
+** Linux on x86-64, or an emulator of it that knows the flag, as qemu does. Nothing is timed.
 */
 #include <stdio.h>
 
 #include "count.h"
+#include "stack.h"
 
-enum { TRACEME = 0, GETREGS = 12, SINGLESTEP = 9, RIP = 16, RSP = 19, REGISTERS = 27, STOP = 19 };
-extern long ptrace(long request, long pid, void *address, void *data);
-extern int fork(void), waitpid(int pid, int *status, int options), raise(int signal);
-extern void _exit(int status);
+/* The C library's sigaction on x86-64, and where a handler finds the registers in its third argument. */
+typedef struct {
+  void (*handler)(int signal, void *information, void *context);
+  unsigned long mask[16];
+  int flags;
+  void (*restorer)(void);
+} action;
+enum { SIGTRAP = 5, SA_SIGINFO = 4, REGISTERS = 40, RSP = 15, RIP = 16 };
+extern int sigaction(int signal, const action *taken, action *before);
+extern void exit(int status);
 
-static unsigned long registers[REGISTERS];
+extern const uint8_t __executable_start[], etext[]; /* the linker's: this program's code lies between them */
 
-/* Waits for the child to stop; 0 when it has ended. */
-static int stopped(int child) {
-  int status;
-  return waitpid(child, &status, 0) == child && (status & 0xff) == 0x7f;
-}
+static const uint8_t *first_instruction;
+static volatile int entered, returned;
+static volatile steps so_far;
 
-/* One step; 0 when the child has ended. */
-static int step(int child) {
-  return ptrace(SINGLESTEP, child, 0, 0) == 0 && stopped(child) && ptrace(GETREGS, child, 0, registers) == 0;
-}
-
-/* Steps on until the function has returned: the return pops what the call pushed, and nothing before it does. */
-static long steps_inside(int child) {
-  unsigned long entered = registers[RSP];
-  long steps = 0;
-  do steps++;
-  while (step(child) && registers[RSP] <= entered);
-  while (step(child)) {}
-  return steps;
-}
-
-long count(void (*call)(void), const void *function) {
-  int child = fork();
-  if (child < 0) return -1;
-  if (child == 0) {
-    if (ptrace(TRACEME, 0, 0, 0) != 0) _exit(1);
-    raise(STOP);
-    call();
-    _exit(0);
+/* The function has returned when what its call pushed is popped; nothing before its return does that. */
+static void before_instruction(int signal, void *information, void *context) {
+  const uint64_t *registers = (const uint64_t *)((const uint8_t *)context + REGISTERS);
+  const uint8_t *stack = (const uint8_t *)registers[RSP], *next = (const uint8_t *)registers[RIP];
+  (void)signal;
+  (void)information;
+  if (!entered && next == first_instruction) {
+    entered = 1;
+    so_far.stack = stack;
   }
-  if (!stopped(child)) return -1;
-  while (step(child))
-    if (registers[RIP] == (unsigned long)function) return steps_inside(child);
-  return -1;
+  if (!entered || returned) return;
+  if (stack > so_far.stack)
+    returned = 1;
+  else if (next >= __executable_start && next < etext)
+    so_far.own++;
+  else
+    so_far.outside++;
 }
 
-void print_ratio(long mine, long theirs) {
-  long hundredths = (100 * mine + theirs / 2) / theirs;
-  printf("ratio %ld.%02ld\n", hundredths / 100, hundredths % 100);
+/* The trap flag is bit 8 of the flags. They are pushed beyond the 128 bytes below the stack pointer, which may be in use. */
+static void set_trap_flag(void) {
+  __asm__ volatile("lea -128(%%rsp), %%rsp\n\tpushfq\n\torq $0x100, (%%rsp)\n\tpopfq\n\tlea 128(%%rsp), %%rsp" ::: "memory", "cc");
+}
+
+static void clear_trap_flag(void) {
+  __asm__ volatile("lea -128(%%rsp), %%rsp\n\tpushfq\n\tandq $~0x100, (%%rsp)\n\tpopfq\n\tlea 128(%%rsp), %%rsp" ::: "memory", "cc");
+}
+
+steps count(void (*call)(void), const void *function) {
+  action handling = {before_instruction, {0}, SA_SIGINFO, 0};
+  first_instruction = function;
+  entered = returned = 0;
+  so_far.own = so_far.outside = 0;
+  if (sigaction(SIGTRAP, &handling, 0) == 0) {
+    set_trap_flag();
+    on_own_stack(call);
+    clear_trap_flag();
+  }
+  if (!returned) {
+    printf("instructions cannot be counted here\n");
+    exit(1);
+  }
+  return (steps){so_far.own, so_far.outside, so_far.stack};
 }

@@ -1,11 +1,18 @@
-/* How many instructions a function executes in one call, and how two such counts compare. */
+/* How many instructions a function executes in one call. */
 #ifndef COUNT_H
 #define COUNT_H
+#include <stdint.h>
 
-/* `call` makes one call of `function`; what comes back is the number of instructions executed in it, or -1 if it was never entered. */
-long count(void (*call)(void), const void *function);
+/* `own` are the instructions in this program: the function, what it calls, and the linker's stubs that lead out of the program. `outside`
+** are those beyond the stubs, which are memcpy and memset of the C library: it picks their code by the processor, so they may be more or
+** fewer on another machine. `stack` is the stack pointer at the function's first instruction: the return address lies there. */
+typedef struct {
+  long own, outside;
+  const uint8_t *stack;
+} steps;
 
-/* Prints the ratio of two counts, rounded to hundredths, and ends the line. */
-void print_ratio(long mine, long theirs);
+/* `call` makes one call of `function`; what comes back is what was executed from the function's first instruction to its return. Ends the
+** program with a message if that cannot be counted. */
+steps count(void (*call)(void), const void *function);
 
 #endif

@@ -1,7 +1,18 @@
-/* The phasors of a window as one would write them in C: a table of cosines, 64-bit sums, one channel after another. */
+/*
+** Document 01 as one would write it in C: tables, 64-bit sums, one quantity after another. It is the measure for the library's speed and
+** nothing else: its answers are compared with the library's before anything is counted.
+**
+** It is compiled four times, each time under the name PLAIN: at -O2 and at -O3, and with either root. DOUBLE_ROOT takes the processor's
+** square root of a double, which is exact here: every number that a root is taken of is below 2^52. Without it the root is a whole-number
+** one, a bit of the result a turn, beginning at the highest bit there is.
+*/
+#include <string.h>
+
 #include "plain.h"
 
-enum { FRAMES = 16, PHASES = 3, MOST_ENDS = 6 };
+enum { RECORD = 32, STATE = 64, DECISION = 32, FRAMES = 16, PHASES = 3, MOST_ENDS = 6, LONGEST = FRAMES * PHASES * (1 + MOST_ENDS) };
+enum { DONE, NO_SETTINGS, WINDOW_LENGTH, NO_ROOM, MISSING, ENTRY_LENGTH, OUT_OF_RANGE, NOTHING_PENDING, DIFFERS, NO_RELAY = 17 };
+enum { NONE, FORWARD, REVERSE };
 
 typedef struct {
   int64_t re, im;
@@ -10,8 +21,104 @@ typedef struct {
 static const int16_t COSINES[FRAMES] = {16384,  15137,  11585,  6270,  0, -6270, -11585, -15137,
                                         -16384, -15137, -11585, -6270, 0, 6270,  11585,  15137};
 
-/* The compilers that firmware meets shift a negative number downward. */
-static int64_t rounded(int64_t sum) { return (sum + 65536) >> 17; }
+/* Bytes: 16-bit fields and samples, 32-bit words of the decision, upper byte first */
+
+static int64_t unsigned_at(const uint8_t *bytes, size_t at) { return bytes[at] << 8 | bytes[at + 1]; }
+static int64_t signed_at(const uint8_t *bytes, size_t at) { return (int16_t)(bytes[at] << 8 | bytes[at + 1]); }
+
+static void put_word(uint8_t *bytes, uint64_t n) {
+  bytes[0] = (uint8_t)(n >> 24);
+  bytes[1] = (uint8_t)(n >> 16);
+  bytes[2] = (uint8_t)(n >> 8);
+  bytes[3] = (uint8_t)n;
+}
+
+static uint64_t refused(uint64_t number, uint64_t place) { return 256 * place + number; }
+
+/* Settings */
+
+static int outside(int64_t x, int64_t low, int64_t high) { return x < low || high < x; }
+
+/* The offset of the first fault of a record, or RECORD if it has none. */
+static size_t fault(const uint8_t *r) {
+  if (outside(unsigned_at(r, 0), 2, 6)) return 0;
+  if (outside(unsigned_at(r, 2), 1, 100)) return 2;
+  if (outside(unsigned_at(r, 4), 1, 42000)) return 4;
+  if (outside(unsigned_at(r, 6), 0, 20000)) return 6;
+  if (outside(unsigned_at(r, 8), 1, 20000)) return 8;
+  if (outside(unsigned_at(r, 10), 1, 2000)) return 10;
+  if (outside(unsigned_at(r, 12), 0, 1000)) return 12;
+  if (outside(signed_at(r, 14), -500, 500)) return 14;
+  int64_t re = unsigned_at(r, 16), im = unsigned_at(r, 18);
+  if (outside(re, 0, 1000)) return 16;
+  if (outside(im, 0, 1000) || outside(re * re + im * im, 998000, 1002000)) return 18;
+  int64_t zf = signed_at(r, 20), zr = signed_at(r, 22);
+  if (outside(zf, -20000, 20000)) return 20;
+  if (outside(zr, -20000, 20000) || zf >= zr) return 22;
+  if (outside(unsigned_at(r, 24), 1, 42000)) return 24;
+  for (size_t at = 26; at < RECORD; at++)
+    if (r[at] != 0) return at;
+  return RECORD;
+}
+
+static int good(const uint8_t *record) { return fault(record) == RECORD; }
+
+static uint64_t proposed(const uint8_t *entry, size_t entry_len) {
+  if (entry_len != RECORD) return ENTRY_LENGTH;
+  size_t at = fault(entry);
+  return at == RECORD ? DONE : refused(OUT_OF_RANGE, at);
+}
+
+static uint64_t propose(uint8_t *state, size_t state_len, const uint8_t *entry, size_t entry_len) {
+  if (state_len != STATE) return NO_RELAY;
+  uint64_t answer = proposed(entry, entry_len);
+  if (answer == DONE)
+    memcpy(state + RECORD, entry, RECORD);
+  else
+    memset(state + RECORD, 0, RECORD);
+  return answer;
+}
+
+static uint64_t confirmed(const uint8_t *pending, const uint8_t *entry, size_t entry_len) {
+  if (entry_len != RECORD) return ENTRY_LENGTH;
+  if (!good(pending)) return NOTHING_PENDING;
+  for (size_t at = 0; at < RECORD; at++)
+    if (pending[at] != entry[at]) return refused(DIFFERS, at);
+  return DONE;
+}
+
+static uint64_t confirm(uint8_t *state, size_t state_len, const uint8_t *entry, size_t entry_len) {
+  if (state_len != STATE) return NO_RELAY;
+  uint64_t answer = confirmed(state + RECORD, entry, entry_len);
+  if (answer == DONE) memcpy(state, entry, RECORD);
+  memset(state + RECORD, 0, RECORD);
+  return answer;
+}
+
+static uint64_t read_back(const uint8_t *state, size_t state_len, uint8_t *out, size_t out_len) {
+  if (state_len != STATE) return NO_RELAY;
+  if (!good(state)) return NO_SETTINGS;
+  if (out_len < RECORD) return NO_ROOM;
+  memcpy(out, state, RECORD);
+  return DONE;
+}
+
+/* Phasors */
+
+/* Rounded by 2^bits. The compilers that firmware meets shift a negative number downward. */
+static int64_t rounded(int64_t x, int bits) { return (x + ((int64_t)1 << (bits - 1))) >> bits; }
+
+/* Rounded by 1000; a division goes toward zero, so a negative one is mended. */
+static int64_t rounded_thousandths(int64_t x) {
+  int64_t quotient = (x + 500) / 1000;
+  return quotient * 1000 > x + 500 ? quotient - 1 : quotient;
+}
+
+static phasor plus(phasor p, phasor q) { return (phasor){p.re + q.re, p.im + q.im}; }
+static phasor minus(phasor p, phasor q) { return (phasor){p.re - q.re, p.im - q.im}; }
+static phasor times(phasor p, phasor q) { return (phasor){p.re * q.re - p.im * q.im, p.re * q.im + p.im * q.re}; }
+static phasor minus_j(phasor p) { return (phasor){p.im, -p.re}; }
+static int64_t dot(phasor p, phasor q) { return p.re * q.re + p.im * q.im; } /* Re(p q*) */
 
 static phasor measure(const int16_t *window, size_t channels, size_t channel) {
   int64_t a = 0, b = 0;
@@ -20,20 +127,126 @@ static phasor measure(const int16_t *window, size_t channels, size_t channel) {
     a += x * COSINES[n];
     b -= x * COSINES[(n + 12) % FRAMES];
   }
-  return (phasor){rounded(a), rounded(b)};
+  return (phasor){rounded(a, 17), rounded(b, 17)};
 }
 
-int64_t plain_phasors(const int16_t *window, size_t window_len, uint64_t ends, uint64_t phase, uint64_t end, uint64_t which) {
-  size_t channels = PHASES + PHASES * ends;
-  if (ends > MOST_ENDS || phase >= PHASES || end >= ends || window_len != FRAMES * channels) return 0;
-  phasor voltages[PHASES], currents[PHASES][MOST_ENDS];
-  for (size_t p = 0; p < PHASES; p++) voltages[p] = measure(window, channels, p);
-  for (size_t p = 0; p < PHASES; p++)
-    for (size_t e = 0; e < ends; e++) currents[p][e] = measure(window, channels, PHASES + PHASES * e + p);
-  phasor sum = currents[phase][end];
-  for (size_t p = 0; p < PHASES; p++) {
-    sum.re += voltages[p].re;
-    sum.im += voltages[p].im;
-  }
-  return which == 0 ? sum.re : sum.im;
+/* Direction, from the voltages v and the currents i of end 1 */
+
+static const phasor A = {-8192, 14189}, A2 = {-8192, -14189}; /* a and its conjugate, over 16384 */
+
+static phasor over_16384(phasor p) { return (phasor){rounded(p.re, 14), rounded(p.im, 14)}; }
+
+/* x[0] + f x[1] + g x[2]: three times the positive sequence with a and its conjugate, the negative one with them changed about. */
+static phasor sequence(const phasor *x, phasor f, phasor g) {
+  phasor first = {16384 * x[0].re, 16384 * x[0].im};
+  return over_16384(plus(first, plus(times(f, x[1]), times(g, x[2]))));
 }
+
+static int direction(const uint8_t *r, const phasor *v, const phasor *i) {
+  phasor v2 = sequence(v, A2, A), i2 = sequence(i, A2, A), d = {unsigned_at(r, 16), unsigned_at(r, 18)};
+  int64_t square = dot(i2, i2), pickup = unsigned_at(r, 24);
+  if (square < pickup * pickup) return NONE;
+  int64_t torque = dot(v2, times(d, i2));
+  if (torque < signed_at(r, 20) * square) return FORWARD;
+  return torque > signed_at(r, 22) * square ? REVERSE : NONE;
+}
+
+/* Mho loops, from the same */
+
+static int asserts(phasor z, int64_t reach, phasor v, phasor i, phasor vp) {
+  int64_t n = dot(v, vp), m = dot(times(z, i), vp);
+  return m > 0 && 1000000 * n <= reach * m;
+}
+
+/* AG, BG, CG from bit 0 on, AB, BC, CA from bit 3 on. */
+static int loops(const uint8_t *r, const phasor *v, const phasor *i) {
+  phasor z = {unsigned_at(r, 6), unsigned_at(r, 8)}, k = {unsigned_at(r, 12), signed_at(r, 14)};
+  int64_t reach = unsigned_at(r, 10);
+  phasor p = sequence(v, A, A2), ap = over_16384(times(A, p)), a2p = over_16384(times(A2, p));
+  phasor exact = times(k, plus(plus(i[0], i[1]), i[2])), k_product = {rounded_thousandths(exact.re), rounded_thousandths(exact.im)};
+  const phasor ground[PHASES] = {p, a2p, ap}, phase[PHASES] = {ap, p, a2p};
+  int bits = 0;
+  for (size_t x = 0; x < PHASES; x++) {
+    size_t y = (x + 1) % PHASES;
+    bits |= asserts(z, reach, v[x], plus(i[x], k_product), ground[x]) << x;
+    bits |= asserts(z, reach, minus(v[x], v[y]), minus(i[x], i[y]), minus_j(phase[x])) << (PHASES + x);
+  }
+  return bits;
+}
+
+/* Percentage differential */
+
+/* The floor of the root. */
+#ifdef DOUBLE_ROOT
+static uint64_t root_down(uint64_t x) { return (uint64_t)(int64_t)__builtin_sqrt((double)(int64_t)x); }
+#else
+static uint64_t root_down(uint64_t x) {
+  if (x == 0) return 0;
+  uint64_t root = 0, bit = (uint64_t)1 << ((63 - __builtin_clzll(x)) & ~1); /* the highest power of four that is not above x */
+  do {
+    uint64_t tried = root + bit;
+    root >>= 1;
+    if (x >= tried) {
+      x -= tried;
+      root += bit;
+    }
+    bit >>= 2;
+  } while (bit != 0);
+  return root;
+}
+#endif
+
+/* The smallest whole number whose square is at least x. */
+static uint64_t root_up(uint64_t x) {
+  uint64_t root = root_down(x);
+  return root * root < x ? root + 1 : root;
+}
+
+/* The phases that operate; the restraints U and the magnitudes of the differential go to the decision, three words each. */
+static int differential(const uint8_t *r, phasor currents[PHASES][MOST_ENDS], uint8_t *restraints, uint8_t *magnitudes) {
+  size_t ends = (size_t)unsigned_at(r, 0);
+  uint64_t slope = (uint64_t)unsigned_at(r, 2), pickup = (uint64_t)unsigned_at(r, 4);
+  int bits = 0;
+  for (size_t p = 0; p < PHASES; p++) {
+    phasor sum = {0, 0};
+    uint64_t restraint = 0;
+    for (size_t e = 0; e < ends; e++) {
+      phasor i = currents[p][e];
+      sum = plus(sum, i);
+      restraint += root_up(4096 * (uint64_t)dot(i, i));
+    }
+    uint64_t square = (uint64_t)dot(sum, sum), restrained = slope * restraint;
+    if (square >= pickup * pickup && 40960000 * square > restrained * restrained) bits |= 1 << p;
+    put_word(restraints + 4 * p, restraint);
+    put_word(magnitudes + 4 * p, root_down(4096 * square));
+  }
+  return bits;
+}
+
+static uint64_t decide(const uint8_t *state, size_t state_len, const uint8_t *samples, size_t samples_len, uint8_t *out, size_t out_len) {
+  if (state_len != STATE) return NO_RELAY;
+  if (!good(state)) return NO_SETTINGS;
+  size_t ends = (size_t)unsigned_at(state, 0), channels = PHASES + PHASES * ends, numbers = FRAMES * channels;
+  if (samples_len != 2 * numbers) return WINDOW_LENGTH;
+  if (out_len < DECISION) return NO_ROOM;
+  int16_t window[LONGEST];
+  for (size_t k = 0; k < numbers; k++) {
+    window[k] = (int16_t)signed_at(samples, 2 * k);
+    if (window[k] == -32768) return refused(MISSING, k);
+  }
+  phasor v[PHASES], local[PHASES], currents[PHASES][MOST_ENDS];
+  for (size_t p = 0; p < PHASES; p++) {
+    v[p] = measure(window, channels, p);
+    for (size_t e = 0; e < ends; e++) currents[p][e] = measure(window, channels, PHASES + PHASES * e + p);
+    local[p] = currents[p][0];
+  }
+  int phases = differential(state, currents, out + 8, out + 20), asserting = loops(state, v, local), way = direction(state, v, local);
+  out[0] = phases != 0 || (way == FORWARD && asserting != 0);
+  out[1] = (uint8_t)phases;
+  out[2] = (uint8_t)asserting;
+  out[3] = (uint8_t)way;
+  memset(out + 4, 0, 4);
+  return DONE;
+}
+
+const four_calls PLAIN = {propose, confirm, read_back, decide};

@@ -1,14 +1,18 @@
-/* What plain C offers to be counted beside the library. */
+/* The four calls in plain C, to be counted beside the library's: one source, compiled in four ways. */
 #ifndef PLAIN_H
 #define PLAIN_H
 #include <stddef.h>
 #include <stdint.h>
 
-/* All phasors of a window are measured; what comes back is as cost_phasors gives it. */
-int64_t plain_phasors(const int16_t *window, size_t window_len, uint64_t ends, uint64_t phase, uint64_t end, uint64_t which);
+/* The calls of gorsepetal.h, under no name: whoever holds this can call the library or any version of plain C alike. */
+typedef struct {
+  uint64_t (*propose)(uint8_t *state, size_t state_len, const uint8_t *entry, size_t entry_len);
+  uint64_t (*confirm)(uint8_t *state, size_t state_len, const uint8_t *entry, size_t entry_len);
+  uint64_t (*read_back)(const uint8_t *state, size_t state_len, uint8_t *out, size_t out_len);
+  uint64_t (*decide)(const uint8_t *state, size_t state_len, const uint8_t *samples, size_t samples_len, uint8_t *out, size_t out_len);
+} four_calls;
 
-/* The root rounded down, and rounded up. */
-uint64_t plain_floor_root(uint64_t x);
-uint64_t plain_root_up(uint64_t x);
+/* At -O2 and at -O3, with a root in whole numbers and with the processor's root of a double. */
+extern const four_calls plain_O2, plain_O3, plain_double_O2, plain_double_O3;
 
 #endif

@@ -3,14 +3,13 @@
 #
 #   sh tests/kit.sh archive                prove the library and write build/libgorsepetal.a
 #   sh tests/kit.sh ready                  the same, but only if that file is missing or older than the crates
-#   sh tests/kit.sh crate NAME             prove crates/NAME and write build/libNAME.a
 #   sh tests/kit.sh window                 prove the window program and write build/window
 #   sh tests/kit.sh window_ready           the same, but only if that file is missing or older than the crates
 #   sh tests/kit.sh header                 compile the header alone, as C99 and as C++
 #   sh tests/kit.sh alone                  link the archive with memcpy and memset alone: it must need no other symbol
-#   sh tests/kit.sh object SOURCE NAME O3  compile SOURCE to build/NAME.o, at -O3 or as said
+#   sh tests/kit.sh object SOURCE NAME O3  compile SOURCE to build/NAME.o, at -O3 or as said, with the compiler's flags that follow
 #   sh tests/kit.sh program SOURCE NAME..  compile SOURCE and link it with the archive, and with the objects named after it, to build/NAME
-#   sh tests/kit.sh run NAME               run build/NAME, with the standard input of this call
+#   sh tests/kit.sh run NAME               run build/NAME, with the standard input of this call and the words that follow
 #   sh tests/kit.sh words NAME             print the words that do so, one a line, for a caller that runs it many times
 #
 # GORSEPETAL_ARCHIVE names an archive to use in place of build/libgorsepetal.a. The archive and the window program are for x86-64, so
@@ -30,13 +29,11 @@ built=build/libgorsepetal.a
 archive=${GORSEPETAL_ARCHIVE:-$built}
 mkdir -p build
 
-crate() {
-  echo "proving crates/$1 and writing build/lib$1.a: some minutes from nothing" >&2
-  rt staticlib "$1" >"build/$1.log" 2>&1 || { cat "build/$1.log" >&2; fail "crates/$1 was not proved"; }
-  cp "target/staticlib/lib$1.a" "build/lib$1.a"
+archive() {
+  echo "proving crates/gorsepetal and writing $built: some minutes from nothing" >&2
+  rt staticlib gorsepetal >build/gorsepetal.log 2>&1 || { cat build/gorsepetal.log >&2; fail "crates/gorsepetal was not proved"; }
+  cp target/staticlib/libgorsepetal.a "$built"
 }
-
-archive() { crate gorsepetal; }
 
 window() {
   echo "proving crates/window and writing build/window: some minutes from nothing" >&2
@@ -67,10 +64,17 @@ alone() {
   "$bin/ld.lld" -static -z defs --entry=gorsepetal_propose -o build/alone build/alone.o --whole-archive "$archive"
 }
 
-object() { compile -std=c99 -fPIE "-$3" -c "$1" -o "build/$2.o"; }
+object() {
+  source=$1
+  name=$2
+  level=$3
+  shift 3
+  compile -std=c99 -fPIE "-$level" "$@" -c "$source" -o "build/$name.o"
+}
 
+# With -z now the C library's functions are found before main begins, not when one is first called.
 program() {
-  [ -f "$archive" ] || fail "$archive is not there: run sh tests/kit.sh archive, or crate"
+  [ -f "$archive" ] || fail "$archive is not there: run sh tests/kit.sh archive"
   object "$1" "$2" O2
   shift
   name=$1
@@ -78,31 +82,33 @@ program() {
     shift
     set -- "$@" "build/$word.o"
   done
-  "$bin/ld.lld" -pie --dynamic-linker="$lib/ld-linux-x86-64.so.2" -rpath "$lib" -o "build/$name" \
+  "$bin/ld.lld" -pie -z now --dynamic-linker="$lib/ld-linux-x86-64.so.2" -rpath "$lib" -o "build/$name" \
     "$lib/Scrt1.o" "$lib/crti.o" "$lib/crtbeginS.o" "$@" "$archive" \
     "$lib/libc.so.6" "$lib/libc_nonshared.a" "$lib/libgcc.a" "$lib/crtendS.o" "$lib/crtn.o"
 }
 
 # The kit's own loader and C library, so that nothing of the machine's is needed; on Arm behind the kit's emulator.
 words() {
+  name=$1
+  shift
   if [ "$machine" != x86_64 ]; then echo "$bin/qemu-x86_64"; fi
-  printf '%s\n' "$lib/ld-linux-x86-64.so.2" --library-path "$lib" "$PWD/build/$1"
+  printf '%s\n' "$lib/ld-linux-x86-64.so.2" --library-path "$lib" "$PWD/build/$name" "$@"
 }
 
 run() {
-  name=$1
+  lines=$(words "$@")
   set --
   while IFS= read -r word; do set -- "$@" "$word"; done <<END
-$(words "$name")
+$lines
 END
   exec "$@"
 }
 
 case "${1:-}" in
   archive | ready | window | window_ready | header | alone) [ $# -eq 1 ] || fail "$1 takes no further word" ;;
-  object) [ $# -eq 4 ] || fail "object takes SOURCE, NAME and a level" ;;
+  object) [ $# -ge 4 ] || fail "object takes SOURCE, NAME and a level, and flags" ;;
   program) [ $# -ge 3 ] || fail "program takes SOURCE and NAME, and objects" ;;
-  crate | run | words) [ $# -eq 2 ] || fail "$1 takes NAME" ;;
-  *) fail "one of archive, ready, crate, window, window_ready, header, alone, object, program, run, words is wanted" ;;
+  run | words) [ $# -ge 2 ] || fail "$1 takes NAME, and words for the program" ;;
+  *) fail "one of archive, ready, window, window_ready, header, alone, object, program, run, words is wanted" ;;
 esac
 "$@"

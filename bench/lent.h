@@ -1,0 +1,41 @@
+/* One call with all that is lent to it, made by the library or by plain C: what is compared, counted and measured here. */
+#ifndef LENT_H
+#define LENT_H
+#include "gorsepetal.h"
+#include "plain.h"
+
+enum {
+  RECORD = GORSEPETAL_RECORD_LENGTH,
+  STATE = GORSEPETAL_STATE_LENGTH,
+  DECISION = GORSEPETAL_DECISION_LENGTH,
+  FEWEST_ENDS = 2,
+  MOST_ENDS = 6,
+  BEYOND = 8, /* bytes after each slice, which no call may touch */
+};
+
+/* The versions, the library's archive first. */
+enum { ARCHIVE, PLAIN_O2, PLAIN_O3, DOUBLE_O2, DOUBLE_O3, VERSIONS };
+extern const struct version {
+  const char *name;
+  const four_calls *calls;
+} versions[VERSIONS];
+
+typedef enum { PROPOSE, CONFIRM, READ_BACK, DECIDE, CALLS } which_call;
+extern const char *const call_names[CALLS];
+
+/* The slices of a call with their lengths. `in` is what it reads: the entry of propose and confirm, the samples of decide. */
+typedef struct {
+  size_t state_len, in_len, out_len;
+  uint8_t state[STATE + BEYOND], in[GORSEPETAL_WINDOW_BYTES(MOST_ENDS) + BEYOND], out[DECISION + BEYOND];
+} lent;
+
+/* Makes the call on these slices and gives back its answer. */
+uint64_t make(const four_calls *version, which_call call, lent *slices);
+
+/* Where the code of this version's call begins. */
+const void *code_of(const four_calls *version, which_call call);
+
+/* Writes a 16-bit field or sample, upper byte first. */
+void put(uint8_t *bytes, int at, int number);
+
+#endif

@@ -1,0 +1,146 @@
+/* Whether the library and every version of plain C do the same: answers and bytes compared, call by call. */
+#include <stdio.h>
+#include <string.h>
+
+#include "same.h"
+#include "windows.h"
+
+extern void exit(int status);
+
+static long answered[GORSEPETAL_NO_RELAY + 1]; /* calls compared, by the number given back */
+
+void same(which_call call, const lent *slices) {
+  lent wanted = *slices;
+  uint64_t answer = make(versions[ARCHIVE].calls, call, &wanted);
+  for (int v = ARCHIVE + 1; v < VERSIONS; v++) {
+    lent got = *slices;
+    uint64_t other = make(versions[v].calls, call, &got);
+    if (other == answer && memcmp(&got, &wanted, sizeof got) == 0) continue;
+    printf("%s: the archive gives back %d at %d, %s %d at %d%s\n", call_names[call], (int)GORSEPETAL_NUMBER(answer),
+           (int)GORSEPETAL_PLACE(answer), versions[v].name, (int)GORSEPETAL_NUMBER(other), (int)GORSEPETAL_PLACE(other),
+           other == answer ? ", and other bytes" : "");
+    exit(1);
+  }
+  answered[GORSEPETAL_NUMBER(answer)]++;
+}
+
+/* The call as it is, and with a state of other lengths. */
+static void same_with_other_states(which_call call, lent *slices) {
+  static const size_t lengths[] = {0, RECORD, STATE - 1, STATE + 1, STATE};
+  for (size_t k = 0; k < sizeof lengths / sizeof *lengths; k++) {
+    slices->state_len = lengths[k];
+    same(call, slices);
+  }
+}
+
+/* The same with entries of other lengths. */
+static void same_with_other_entries(which_call call, lent *slices) {
+  static const size_t lengths[] = {0, RECORD - 1, RECORD + 1, RECORD};
+  for (size_t k = 0; k < sizeof lengths / sizeof *lengths; k++) {
+    slices->in_len = lengths[k];
+    same_with_other_states(call, slices);
+  }
+}
+
+/* The same with other room. */
+static void same_with_other_rooms(which_call call, lent *slices) {
+  static const size_t lengths[] = {0, DECISION - 1, DECISION + 1, DECISION};
+  for (size_t k = 0; k < sizeof lengths / sizeof *lengths; k++) {
+    slices->out_len = lengths[k];
+    same_with_other_states(call, slices);
+  }
+}
+
+/* Every field at the edges of every range, and the spare bytes. */
+static void propose_refusals(void) {
+  static const int edges[] = {0,    1,    2,    6,    7,     44,    45,    100,   101,   256,    257,    300,  500,  501,  998, 999,
+                              1000, 1001, 2000, 2001, 20000, 20001, 32767, 42000, 42001, -20001, -20000, -501, -500, -300, -1};
+  for (int at = 0; at < RECORD; at += 2)
+    for (size_t k = 0; k < sizeof edges / sizeof *edges; k++) {
+      lent slices;
+      lend_nth(&slices, PROPOSE, 0);
+      good_record(slices.in, FEWEST_ENDS);
+      put(slices.in, at, edges[k]);
+      good_record(slices.state, MOST_ENDS);
+      good_record(slices.state + RECORD, MOST_ENDS);
+      same_with_other_entries(PROPOSE, &slices);
+    }
+}
+
+/* Another byte at each place, in the entry and in the pending record, and nothing pending. */
+static void confirm_refusals(void) {
+  for (int at = 0; at < RECORD; at++)
+    for (int where = 0; where < 3; where++) {
+      lent slices;
+      lend_nth(&slices, CONFIRM, 0);
+      if (where == 0) slices.in[at] ^= 0x80;
+      if (where == 1) slices.state[RECORD + at] ^= 0x80;
+      if (where == 2) memset(slices.state + RECORD, 0, RECORD);
+      good_record(slices.state, MOST_ENDS);
+      same_with_other_entries(CONFIRM, &slices);
+    }
+}
+
+/* A good record in force, one that is out of range at each byte, and none. */
+static void read_back_refusals(void) {
+  lent slices;
+  for (int at = 0; at < RECORD; at++) {
+    lend_nth(&slices, READ_BACK, 0);
+    same_with_other_rooms(READ_BACK, &slices);
+    slices.state[at] ^= 0x80;
+    same_with_other_rooms(READ_BACK, &slices);
+  }
+  lend_fresh(&slices);
+  same_with_other_rooms(READ_BACK, &slices);
+}
+
+/* Windows of each length about the right one, with a sample missing and with none, by a good record and by none. */
+static void decide_refusals(void) {
+  for (int ends = FEWEST_ENDS; ends <= MOST_ENDS; ends++)
+    for (int missing = 0; missing < 2; missing++)
+      for (int length = -2; length <= 2; length++) {
+        lent slices;
+        lend_fault(&slices, ends);
+        if (missing) miss(&slices, last_sample(&slices));
+        slices.in_len += (size_t)length;
+        same_with_other_rooms(DECIDE, &slices);
+        memset(slices.state, 0, RECORD);
+        same_with_other_rooms(DECIDE, &slices);
+      }
+}
+
+/* A sample missing at each place; the last one is missing too: the first is named. */
+static void missing_samples(void) {
+  for (int ends = FEWEST_ENDS; ends <= MOST_ENDS; ends++) {
+    lent slices;
+    lend_quiet(&slices, ends);
+    for (int place = last_sample(&slices); place >= 0; place--) {
+      lend_quiet(&slices, ends);
+      miss(&slices, last_sample(&slices));
+      miss(&slices, place);
+      same(DECIDE, &slices);
+    }
+  }
+}
+
+void same_refusals(void) {
+  propose_refusals();
+  confirm_refusals();
+  read_back_refusals();
+  decide_refusals();
+  missing_samples();
+}
+
+void print_compared(void) {
+  long calls = 0;
+  for (int number = 0; number <= GORSEPETAL_NO_RELAY; number++) calls += answered[number];
+  printf("%ld calls made by the archive and by all four versions of plain C: the same answers, the same bytes written.\n", calls);
+  printf("Done: %ld. Refused", answered[GORSEPETAL_DONE]);
+  const char *before = ": ";
+  for (int number = GORSEPETAL_DONE + 1; number <= GORSEPETAL_NO_RELAY; number++)
+    if (answered[number] != 0) {
+      printf("%s%ld with %d", before, answered[number], number);
+      before = ", ";
+    }
+  printf(".\n");
+}

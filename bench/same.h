@@ -1,0 +1,16 @@
+/* Whether the library and every version of plain C do the same. */
+#ifndef SAME_H
+#define SAME_H
+#include "lent.h"
+
+/* Makes the call by every version on slices like these. All must give the same answer and leave the same bytes, in every slice and after
+** it; else the program ends with a message. */
+void same(which_call call, const lent *slices);
+
+/* The same for every refusal of the four calls, at every place, and for calls with several things wrong at once. */
+void same_refusals(void);
+
+/* Prints how many calls were compared, and how many of them were refused with each number. */
+void print_compared(void);
+
+#endif

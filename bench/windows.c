@@ -1,0 +1,177 @@
+/* The calls that are compared and counted: records, and windows made of whole numbers from the cosine table, so that they are the same
+** everywhere. */
+#include <string.h>
+
+#include "windows.h"
+
+enum { FRAMES = 16, PHASES = 3, LARGEST = 32767, SCALE = 16384 };
+
+static const int COSINES[FRAMES] = {16384,  15137,  11585,  6270,  0, -6270, -11585, -15137,
+                                    -16384, -15137, -11585, -6270, 0, 6270,  11585,  15137};
+
+static int sine(int n) { return COSINES[(n + 12) % FRAMES]; }
+
+/* Drawn numbers, the same in every run */
+
+static uint32_t draw;
+
+static int drawn(int low, int high) {
+  draw = draw * 1664525u + 1013904223u;
+  return low + (int)((draw >> 8) % (uint32_t)(high - low + 1));
+}
+
+/* Records */
+
+enum { DOCUMENTS, LARGEST_SETTINGS, SMALLEST_SETTINGS, RECORDS };
+enum { D_REAL = 7, D_IMAGINARY, FORWARD_LIMIT, REVERSE_LIMIT, FIELDS = 12 }; /* after the ends, up to the spare bytes */
+
+static const int SETTINGS[RECORDS][FIELDS] = {
+    [DOCUMENTS] = {15, 100, 0, 1000, 850, 667, 0, 0, 1000, -300, 300, 50},
+    [LARGEST_SETTINGS] = {100, 42000, 20000, 20000, 2000, 1000, 500, 1000, 44, 19999, 20000, 42000},
+    [SMALLEST_SETTINGS] = {1, 1, 0, 1, 1, 0, -500, 0, 999, -20000, -19999, 1},
+};
+static const int RANGES[FIELDS][2] = {{1, 100},    {1, 42000}, {0, 20000}, {1, 20000},      {1, 2000},       {0, 1000},
+                                      {-500, 500}, {0, 1000},  {0, 1000},  {-20000, 19999}, {-19999, 20000}, {1, 42000}};
+
+static void put_record(uint8_t *record, int ends, const int *settings) {
+  memset(record, 0, RECORD);
+  put(record, 0, ends);
+  for (int field = 0; field < FIELDS; field++) put(record, 2 + 2 * field, settings[field]);
+}
+
+void good_record(uint8_t *record, int ends) { put_record(record, ends, SETTINGS[DOCUMENTS]); }
+
+/* Each field anywhere in its range; D is put on its circle and the reverse limit above the forward one. */
+static void put_drawn_record(uint8_t *record, int ends) {
+  int settings[FIELDS], imaginary = 0;
+  for (int field = 0; field < FIELDS; field++) settings[field] = drawn(RANGES[field][0], RANGES[field][1]);
+  while (settings[D_REAL] * settings[D_REAL] + imaginary * imaginary < 998000) imaginary++;
+  settings[D_IMAGINARY] = imaginary;
+  if (settings[REVERSE_LIMIT] <= settings[FORWARD_LIMIT]) settings[REVERSE_LIMIT] = settings[FORWARD_LIMIT] + 1;
+  put_record(record, ends, settings);
+}
+
+/* Windows */
+
+int ends_of(const lent *window) { return window->state[1]; }
+static int channels_of(const lent *window) { return PHASES + PHASES * ends_of(window); }
+static int current(int end, int phase) { return PHASES * end + phase; } /* the channel; ends count from 1 */
+
+int last_sample(const lent *window) { return FRAMES * channels_of(window) - 1; }
+void miss(lent *window, int index) { put(window->in, 2 * index, -32768); }
+
+static void put_sample(lent *window, int frame, int channel, int number) {
+  put(window->in, 2 * (channels_of(window) * frame + channel), number);
+}
+
+void lend_fresh(lent *to) {
+  memset(to, 0, sizeof *to);
+  memset(to->out, 0xA5, sizeof to->out);
+  to->state_len = STATE;
+  to->out_len = DECISION;
+}
+
+/* Decide with no samples yet, by the record that is in force. */
+static void lend_window(lent *to) { to->in_len = (size_t)GORSEPETAL_WINDOW_BYTES(ends_of(to)); }
+
+/* A steady wave with this phasor. */
+static void wave(lent *to, int channel, int re, int im) {
+  for (int n = 0; n < FRAMES; n++) put_sample(to, n, channel, (re * COSINES[n] - im * sine(n)) / SCALE);
+}
+
+/* The same in three phases from a channel on: b a third of a cycle after a, and c after b. */
+static void balanced(lent *to, int channel, int re, int im) {
+  wave(to, channel, re, im);
+  wave(to, channel + 1, (-8192 * re + 14189 * im) / SCALE, (-14189 * re - 8192 * im) / SCALE);
+  wave(to, channel + 2, (-8192 * re - 14189 * im) / SCALE, (14189 * re - 8192 * im) / SCALE);
+}
+
+/* 10000 counts of voltage and 2000 of current, peak; the current lags by a sixteenth of a cycle. */
+void lend_quiet(lent *to, int ends) {
+  lend_fresh(to);
+  good_record(to->state, ends);
+  lend_window(to);
+  balanced(to, 0, 10000, 0);
+  balanced(to, current(1, 0), 1848, -765);
+  for (int end = 2; end <= ends; end++) balanced(to, current(end, 0), -1848 / (ends - 1), 765 / (ends - 1));
+}
+
+/* Phase a: a tenth of the voltage is left, and 20000 counts come in from every end, a quarter of a cycle late. */
+void lend_fault(lent *to, int ends) {
+  lend_quiet(to, ends);
+  wave(to, 0, 1000, 0);
+  for (int end = 1; end <= ends; end++) wave(to, current(end, 0), 0, -20000);
+}
+
+/* Every channel alike, or one sample of 1 and nothing else. The square waves have the largest phasors there are. */
+enum { COSINE_SQUARE, SINE_SQUARE, A_SINGLE_ONE, ALTERNATING, HIGHEST, LOWEST, ZEROS, EXTREMES };
+
+static int extreme_sample(int kind, int frame, int channel) {
+  if (kind == COSINE_SQUARE) return COSINES[frame] >= 0 ? LARGEST : -LARGEST;
+  if (kind == SINE_SQUARE) return sine(frame) >= 0 ? LARGEST : -LARGEST;
+  if (kind == A_SINGLE_ONE) return frame == 0 && channel == current(1, 0);
+  if (kind == ALTERNATING) return frame % 2 == 0 ? LARGEST : -LARGEST;
+  if (kind == ZEROS) return 0;
+  return kind == HIGHEST ? LARGEST : -LARGEST;
+}
+
+static void put_extreme_channel(lent *to, int channel, int kind) {
+  for (int frame = 0; frame < FRAMES; frame++) put_sample(to, frame, channel, extreme_sample(kind, frame, channel));
+}
+
+/* A steady wave, a square wave or noise, of any size from full scale downward. */
+static void put_drawn_channel(lent *to, int channel) {
+  int steady = drawn(0, 2) == 0, noise = drawn(0, 1), late = drawn(0, FRAMES - 1), divisor = 1 << drawn(0, 15);
+  int re = drawn(-16000, 16000) / divisor, im = drawn(-16000, 16000) / divisor;
+  for (int n = 0; n < FRAMES; n++) {
+    int square = COSINES[(n + late) % FRAMES] >= 0 ? LARGEST : -LARGEST;
+    put_sample(to, n, channel, (noise ? drawn(-LARGEST, LARGEST) : square) / divisor);
+  }
+  if (steady) wave(to, channel, re, im);
+}
+
+/* The sequence */
+
+static int ends_of_nth(long n) { return FEWEST_ENDS + (int)(n % (MOST_ENDS - FEWEST_ENDS + 1)); }
+static long turn_of_nth(long n) { return n / (MOST_ENDS - FEWEST_ENDS + 1); } /* in a turn every number of ends has its call */
+static int extreme(long n) { return turn_of_nth(n) < EXTREMES * RECORDS; }
+
+static void put_nth_record(uint8_t *record, long n) {
+  if (extreme(n))
+    put_record(record, ends_of_nth(n), SETTINGS[turn_of_nth(n) % RECORDS]);
+  else
+    put_drawn_record(record, ends_of_nth(n));
+}
+
+static void put_nth_window(lent *to, long n) {
+  lend_window(to);
+  for (int channel = 0; channel < channels_of(to); channel++)
+    if (extreme(n))
+      put_extreme_channel(to, channel, (int)(turn_of_nth(n) / RECORDS));
+    else
+      put_drawn_channel(to, channel);
+}
+
+void lend_nth(lent *to, which_call call, long n) {
+  uint8_t record[RECORD];
+  draw = (uint32_t)n * 2654435761u;
+  put_nth_record(record, n);
+  lend_fresh(to);
+  if (call == PROPOSE || call == CONFIRM) {
+    memcpy(to->in, record, RECORD);
+    to->in_len = RECORD;
+  }
+  if (call == CONFIRM) memcpy(to->state + RECORD, record, RECORD);
+  if (call == READ_BACK || call == DECIDE) memcpy(to->state, record, RECORD);
+  if (call == DECIDE) put_nth_window(to, n);
+}
+
+void spoil(lent *slices, which_call call) {
+  if (call == DECIDE) {
+    miss(slices, drawn(0, last_sample(slices)));
+    return;
+  }
+  uint8_t *record = call == READ_BACK ? slices->state : slices->in;
+  int at = drawn(0, RECORD - 1);
+  record[at] ^= (uint8_t)drawn(1, 255);
+}

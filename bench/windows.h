@@ -1,0 +1,29 @@
+/* The calls that are compared and counted, ready to be made: two windows that a line sees, and a sequence of calls of all kinds. */
+#ifndef WINDOWS_H
+#define WINDOWS_H
+#include "lent.h"
+
+/* A fresh relay, nothing to read, and room for 32 bytes. */
+void lend_fresh(lent *to);
+
+/* The record of document 01, "Window program", with so many ends. */
+void good_record(uint8_t *record, int ends);
+
+/* Decide, by that record. Quiet: a balanced load flows in at end 1 and out at the others, and nothing trips. Fault: phase a has a fault to
+** ground on the line, with large currents into it from all ends, and the relay trips. */
+void lend_quiet(lent *to, int ends);
+void lend_fault(lent *to, int ends);
+
+/* Of a window that is lent: the ends by the record in force, the index of the last sample, and how a sample is marked as missing. */
+int ends_of(const lent *window);
+int last_sample(const lent *window);
+void miss(lent *window, int index);
+
+/* The nth call of a sequence that is the same in every run, every one accepted: extreme windows by extreme records first, then drawn ones;
+** 2 to 6 ends by turns. Entries and read-back have the nth record. */
+void lend_nth(lent *to, which_call call, long n);
+
+/* Changes one thing in the call that was lent last, so that it is mostly refused: a sample is missing, or a byte of a record is another. */
+void spoil(lent *slices, which_call call);
+
+#endif
