@@ -1,15 +1,16 @@
 -- The bits of a number made of yes and no are these; so they tell the facts behind them, and it is 0 exactly where none of these holds.
 use Prim.Native.Nat.{ℕ, zero, suc, _+_, _*_, _/_, _%_}
 use mathlib.Core.Path.{_≡_, refl, sym, ap, _∙_}
-use mathlib.Core.Logic.{_⊎_, inl, inr, ⊎-elim}
+use mathlib.Core.Logic.{inl, inr, ⊎-elim}
 use mathlib.Core.List.{List, [], _∷_}
 use mathlib.Core.Bool.{Bool, true, false, not, cond, false≢true}
 use native.Mathlib.Omega.{arith}
 use borrow.Author.Tests.{ne-eqb}
 use lib.ListN.{getD}
 use lib.Dec.{eqb}
-use Rattle.whole.specs.Bits.{bits, isSet, BitsTell, AnyOf}
+use Rattle.whole.specs.Bits.{bits}
 use Rattle.whole.specs.Exactly.{Exactly}
+use Rattle.claims.specs.Bits.{isSet, BitsTell, AnyOf}
 
 -- no bit of 0 is set
 none-of-zero : (k : ℕ) → isSet k 0 ≡ false

@@ -7,7 +7,7 @@ use mathlib.Core.List.{List, _++_}
 use native.Mathlib.Omega.{arith}
 use lib.IntN.{ℤ}
 use lib.ListN.{drop}
-use Rattle.whole.specs.Bits.{isSet, BitsTell, AnyOf}
+use Rattle.claims.specs.Bits.{isSet, BitsTell, AnyOf}
 use Rattle.whole.specs.Round.{roundBy}
 use Rattle.whole.specs.Root.{floorRoot}
 use Rattle.whole.specs.Sum.{sumOf}

@@ -8,7 +8,7 @@ use lib.IntN.{ℤ, pos}
 use lib.ListN.{drop, getD}
 use Rattle.whole.specs.Exactly.{Exactly}
 use Rattle.whole.specs.Root.{floorRoot}
-use Rattle.whole.specs.Bits.{BitsTell, AnyOf}
+use Rattle.claims.specs.Bits.{BitsTell, AnyOf}
 use Rattle.plane.specs.declared.Phasor.{Phasor}
 use Rattle.phasors.specs.Rate.{sixteen}
 use Rattle.phasors.specs.Grid.{current}

@@ -7,7 +7,7 @@ use mathlib.Core.Logic.{_⊎_}
 use mathlib.Core.List.{List, _∷_}
 use lib.IntN.{ℤ, pos}
 use lib.ListN.{replicate}
-use Rattle.whole.specs.Bits.{isSet}
+use Rattle.claims.specs.Bits.{isSet}
 use Rattle.plane.specs.declared.Phasor.{Phasor}
 use Rattle.phasors.specs.Rate.{sixteen}
 use Rattle.phasors.specs.Grid.{exactCurrent}

@@ -7,8 +7,7 @@ use mathlib.Core.Bool.{Bool, true, false, cond}
 use lib.Dec.{eqb}
 use lib.IntN.{ℤ, pos}
 use lib.ListN.{length, getD}
-use mir.Syntax.{w16}
-use mir.Val.{ofZ}
+use Rattle.whole.specs.TwosComplement.{unsigned}
 use Rattle.plane.specs.declared.Phasor.{Phasor}
 use Rattle.phasors.specs.Rate.{cosine, cosines, sixteen}
 use Rattle.phasors.specs.Sums.{phasorOf}
@@ -68,7 +67,7 @@ loop v vp i = record { v = phasor v; i = phasor i; vp = phasor vp }
 
 -- The settings record of document 01's "Window program" with another zf, and with another pickup of 3I2
 abbrev pub withLimit : ℤ → List ℕ
-withLimit zf = changed sample 20 (ofZ w16 zf)
+withLimit zf = changed sample 20 (unsigned zf)
 
 abbrev pub withPickup : ℕ → List ℕ
 withPickup pickup = changed sample 24 pickup

@@ -3,6 +3,7 @@ pub mod One
 pub mod Table
 pub mod Settings
 pub mod Demand1
+pub mod Bits
 pub mod Demand2
 pub mod Demand3
 pub mod WhichRule

@@ -5,12 +5,12 @@ ghost use Prim.Native.Nat.{_<_, _≤_};
 ghost use Rattle.plane.specs.Plane.{Inside, phasorSize};
 ghost use Rattle.phasors.specs.Grid.{GridInside, cell};
 ghost use Rattle.settings.specs.Fields.{Ranges, slope, pickup};
-ghost use Rattle.differential.specs.Differential.{Sized, AllSized, endRestraint, endMost, restraint, restraintMost, comparison, comparisons, magnitude, operates, operatingBits};
+ghost use Rattle.differential.specs.Differential.{Sized, AllSized, endRestraint, endMost, restraintMost, comparison, comparisons, magnitude, operates, operatingBits};
 use plane::Phasor;
 use whole::bit_before;
 
 // A magnitude in sixty-fourths of a count has 4096 times the square.
-const SIXTY_FOURTHS: u64 = 4096;
+const SIXTY_FOURTHS_SQUARED: u64 = 4096;
 
 // The slope is in percent and the restraint in sixty-fourths: 6400 squared.
 const SLOPE_SCALE: u64 = 40960000;
@@ -33,28 +33,22 @@ fn end_restraint(i: Phasor) -> u64
     requires { ⌜ Inside phasorSize i ⌝ }
     ensures { λ r. ⌜ (r ≡ endRestraint i) × (r ≤ endMost) ⌝ }
 {
-    whole::root_up(SIXTY_FOURTHS * plane::squared_magnitude(i))
+    whole::root_up(SIXTY_FOURTHS_SQUARED * plane::squared_magnitude(i))
 }
 
-// U of a phase.
-fn restraint(grid: [[Phasor; 6]; 3], p: usize, ends: usize) -> u64
-    requires { ⌜ (p < 3) × (ends ≤ 6) × GridInside grid ends ⌝ }
-    ensures { λ r. ⌜ (r ≡ restraint (cell grid p) ends) × (r ≤ restraintMost) ⌝ }
-{
-    let mut sum: u64 = 0;
-    for e in 0..ends {
-        sum = sum + end_restraint(grid[p][e]);
-    }
-    sum
-}
-
-// What is compared in a phase.
+// s and U of a phase, in one pass over the ends.
 fn compared(grid: [[Phasor; 6]; 3], p: usize, ends: usize) -> Comparison
     requires { ⌜ (p < 3) × (ends ≤ 6) × GridInside grid ends ⌝ }
     ensures { λ r. ⌜ (r ≡ comparison (cell grid p) ends) × Sized r ⌝ }
 {
-    let square = plane::squared_magnitude(phasors::sum_phase(grid, p, ends));
-    let restraint = restraint(grid, p, ends);
+    let mut sum = Phasor { re: 0, im: 0 };
+    let mut restraint: u64 = 0;
+    for e in 0..ends {
+        let i = grid[p][e];
+        sum = plane::plus(sum, i);
+        restraint = restraint + end_restraint(i);
+    }
+    let square = plane::squared_magnitude(sum);
     Comparison { square, restraint }
 }
 
@@ -74,7 +68,7 @@ pub fn magnitude(x: Comparison) -> u64
     requires { ⌜ Sized x ⌝ }
     ensures { λ r. ⌜ (r ≡ magnitude x) × (r ≤ restraintMost) ⌝ }
 {
-    whole::floor_root(SIXTY_FOURTHS * x.square)
+    whole::floor_root(SIXTY_FOURTHS_SQUARED * x.square)
 }
 
 // Whether a phase operates at a slope, in percent, and with a pickup, in counts.

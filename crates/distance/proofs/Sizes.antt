@@ -11,7 +11,7 @@ use Rattle.plane.specs.Plane.{Inside, AllInside, phasorSize}
 use Rattle.plane.proofs.Bounds.{inside-plus, inside-factor, inside-scaled, inside-rounded, inside-wider}
 use Rattle.settings.specs.Record.{minus}
 use Rattle.settings.specs.Fields.{From, FromSigned, Ranges, reach, forwardLimit, reverseLimit, negativePickup}
-use Rattle.distance.specs.Sequence.{Turn, sequenceSize, polarisingSize, a, a², scale, turned, sequence}
+use Rattle.distance.specs.Sequence.{Turn, sequenceSize, polarisingSize, scale, turned, sequence}
 use Rattle.distance.specs.Line.{replica, compensation, Compensates, angle}
 use Rattle.distance.specs.Mho.{residual, kProduct}
 
@@ -46,12 +46,6 @@ module _ {s : List ℕ} (h : Ranges s) where
   reach-within = from (h .reach-range)
 
 -- ---- the quantities
-
-pub a-turn : Turn a
-a-turn = record { real = lit (a .re); imag = lit (a .im) }
-
-pub a²-turn : Turn a²
-a²-turn = record { real = lit (a² .re); imag = lit (a² .im) }
 
 pub turn-inside : {f : Phasor} → Turn f → Inside 14189 f
 turn-inside t = record { real = wider (t .real) tt; imag = t .imag }

@@ -21,8 +21,9 @@ const PENDING: usize = MAIN + RECORD_LENGTH;
 
 const MAIN_END: usize = PENDING + RECORD_LENGTH;
 
-// What propose answers to an entry.
-fn verdict(r: &[u8]) -> Answer
+// What propose answers to an entry. The length is tested here because the check wants 32 bytes; `entry::propose`, which takes any
+// verdict, tests it too.
+fn propose_answer(r: &[u8]) -> Answer
     ensures { λ a. ⌜ a ≡ proposeAnswer (verdict (now (r .entry))) (now (r .entry)) ⌝ }
 {
     if r.len() != RECORD_LENGTH {
@@ -39,7 +40,7 @@ fn present(r: &[u8], absent: Answer) -> Answer
     requires { ⌜ length (now r) ≡ recordLength ⌝ }
     ensures { λ a. ⌜ a ≡ present (verdict (now (r .entry))) absent ⌝ }
 {
-    if answers::is_done(verdict(r)) {
+    if answers::is_done(propose_answer(r)) {
         Answer::Done
     } else {
         absent
@@ -62,7 +63,7 @@ pub extern "C" fn gorsepetal_propose(state: &mut [u8], entry: &[u8]) -> u64
     if state.len() != STATE_LENGTH {
         return answers::given_back(Answer::NoRelay);
     }
-    answers::given_back(entry::propose(state, MAIN, entry, verdict(entry)))
+    answers::given_back(entry::propose(state, MAIN, entry, propose_answer(entry)))
 }
 
 // A second entry: the pending record comes into force if this one is the same 32 bytes.
@@ -130,6 +131,7 @@ pub extern "C" fn gorsepetal_decide(state: &[u8], samples: &[u8], out: &mut [u8]
     ensures { λ r. ⌜ Decided (now (state .entry)) (now (samples .entry)) (now (out .entry)) r (now (out .exit)) ⌝ }
 {
     let n = samples::count(samples);
-    let numbers = samples::numbers(samples);
+    let mut numbers = [0i16; samples::LONGEST];
+    samples::numbers(samples, &mut numbers);
     answers::given_back(decide(state, &numbers[0..n], out))
 }

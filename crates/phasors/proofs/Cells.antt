@@ -1,4 +1,4 @@
--- A grid as it is filled, phase by phase and end by end. P is what is asked of a phasor at a phase and an end; `Upto` says how far it holds.
+-- A grid as it is filled, end by end, and at each end phase by phase. P is what is asked of a phasor at a phase and an end; `Upto` says how far it holds.
 use mathlib.Core.Path.{_≡_, refl, sym, ap, subst, _∙_}
 use mathlib.Core.Logic.{_≢_}
 use mathlib.Core.List.{List, [], _∷_}
@@ -41,38 +41,37 @@ put-length (r ∷ g) (suc p) e x (suc q) = put-length g p e x q
 
 -- ---- the loops
 
--- Each phase has six places; P holds in the phases before p at every end, and in phase p before e.
-pub record Upto (P : ℕ → ℕ → Phasor → Type 0) (ends p e : ℕ) (g : List (List Phasor)) : Type 0 where
+-- Each phase has six places; P holds at the ends before e in every phase, and at end e in the phases before p.
+pub record Upto (P : ℕ → ℕ → Phasor → Type 0) (e p : ℕ) (g : List (List Phasor)) : Type 0 where
   pub six : (q : ℕ) → q < 3 → length (getD g q []) ≡ 6
-  pub phases : (q d : ℕ) → q < p → d < ends → P q d (cell g q d)
-  pub phase : (d : ℕ) → d < e → P p d (cell g p d)
+  pub ends : (q d : ℕ) → q < 3 → d < e → P q d (cell g q d)
+  pub end : (q : ℕ) → q < p → P q e (cell g q e)
 
 pub upto-none :
-    (P : ℕ → ℕ → Phasor → Type 0) (ends : ℕ) (a b c : List Phasor) → length a ≡ 6 → length b ≡ 6 → length c ≡ 6 →
-    Upto P ends 0 0 (a ∷ b ∷ c ∷ [])
-upto-none P ends a b c ha hb hc = record {
+    (P : ℕ → ℕ → Phasor → Type 0) (a b c : List Phasor) → length a ≡ 6 → length b ≡ 6 → length c ≡ 6 → Upto P 0 0 (a ∷ b ∷ c ∷ [])
+upto-none P a b c ha hb hc = record {
   six = below-more row 2 (below-more row 1 (below-more row 0 (below-none row) ha) hb) hc;
-  phases = (λ q d m n. absurd (not-suc-le-zero m));
-  phase = below-none _;
+  ends = (λ q d m n. absurd (not-suc-le-zero n));
+  end = below-none _;
 }
   where
     row : ℕ → Type 0
     row q = length (getD (a ∷ b ∷ c ∷ []) q []) ≡ 6
 
-module _ (P : ℕ → ℕ → Phasor → Type 0) (ends p : ℕ) (g : List (List Phasor)) where
-  pub upto-put : (e : ℕ) (x : Phasor) → Upto P ends p e g → p < 3 → e < 6 → P p e x → Upto P ends p (e + 1) (put g p e x)
-  upto-put e x h k l y = record {
+module _ (P : ℕ → ℕ → Phasor → Type 0) (e : ℕ) (g : List (List Phasor)) where
+  pub upto-put : (p : ℕ) (x : Phasor) → Upto P e p g → p < 3 → e < 6 → P p e x → Upto P e (p + 1) (put g p e x)
+  upto-put p x h k l y = record {
     six = (λ q m. put-length g p e x q ∙ h .six q m);
-    phases = (λ q d m n. subst (P q d) (sym (put-other-phase g p e x q d (omega arith))) (h .phases q d m n));
-    phase =
-        below-more (λ (d : ℕ). P p d (cell (put g p e x) p d)) e
-        (λ d m. subst (P p d) (sym (put-other-end g p e x p d (omega arith))) (h .phase d m))
+    ends = (λ q d m n. subst (P q d) (sym (put-other-end g p e x q d (omega arith))) (h .ends q d m n));
+    end =
+        below-more (λ (q : ℕ). P q e (cell (put g p e x) q e)) p
+        (λ q m. subst (P q e) (sym (put-other-phase g p e x q e (omega arith))) (h .end q m))
         (subst (P p e) (sym (put-same g p e x (omega (arith, h .six p k)))) y);
   }
 
-  pub upto-phase : (e : ℕ) → ends ≤ e → Upto P ends p e g → Upto P ends (p + 1) 0 g
-  upto-phase e l h = record {
+  pub upto-end : (p : ℕ) → 3 ≤ p → Upto P e p g → Upto P (e + 1) 0 g
+  upto-end p l h = record {
     six = h .six;
-    phases = (λ q d m n. below-more (λ (q : ℕ). P q d (cell g q d)) p (λ q k. h .phases q d k n) (h .phase d (omega arith)) q m);
-    phase = below-none _;
+    ends = (λ q d m n. below-more (λ (d : ℕ). P q d (cell g q d)) e (λ d k. h .ends q d m k) (h .end q (omega arith)) d n);
+    end = below-none _;
   }

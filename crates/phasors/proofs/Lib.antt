@@ -1,4 +1,4 @@
--- Laws of the sums, the phasors and the grid that other crates cite.
+-- Laws of the sums, the phasors and the grid.
 pub mod Weights
 pub mod Totals
 pub mod Cells

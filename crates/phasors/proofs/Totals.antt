@@ -15,7 +15,7 @@ use Rattle.plane.specs.Plane.{Inside, AllInside, phasorSize, plus, minus, scale
 use Rattle.plane.proofs.Bounds.{inside-plus, inside-wider}
 use Rattle.plane.proofs.Made.{pair}
 use Rattle.phasors.specs.Rate.{Rate}
-use Rattle.phasors.specs.Grid.{cell, current, localCurrents, localOf, total, Filled}
+use Rattle.phasors.specs.Grid.{cell, current, localCurrents, localOf, total, GridInside, Filled}
 
 pub total-next : (f : ℕ → Phasor) (n : ℕ) → total f (n + 1) ≡ plus (total f n) (f n)
 unfolding total
@@ -34,6 +34,13 @@ inside-total f b zero h = record { real = record { size = zero-le }; imag = reco
 inside-total f b (suc n) h =
     let more : b * n + b ≤ b * suc n = omega arith in
     inside-wider (inside-plus (inside-total f b n (λ k l. h k (omega arith))) (h n (omega arith))) (le→leb _ _ more)
+
+-- a phase of a grid at six ends or fewer, each within 42000
+pub phase-inside :
+    (g : List (List Phasor)) (p ends n : ℕ) → GridInside g ends → p < 3 → n ≤ ends → ends ≤ 6 → Inside 252000 (total (cell g p) n)
+phase-inside g p ends n h l few six =
+    let most : 42000 * n ≤ 252000 = omega arith in
+    inside-wider (inside-total (cell g p) 42000 n (λ e k. h p e l (omega arith))) (le→leb _ _ most)
 
 -- a phase of a filled grid has the sum of its currents in the window
 pub filled-total :

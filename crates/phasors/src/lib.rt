@@ -6,7 +6,7 @@ ghost use Rattle.plane.specs.Plane.{Inside, AllInside, phasorSize};
 ghost use Rattle.samples.specs.Window.{windowLength};
 ghost use Rattle.phasors.specs.Rate.{cosines, sixteen};
 ghost use Rattle.phasors.specs.Sums.{sample, withSample, Summed, phasorOf};
-ghost use Rattle.phasors.specs.Grid.{Filled, GridInside, cell, localOf, total, voltagesOf};
+ghost use Rattle.phasors.specs.Grid.{Filled, localOf, voltagesOf};
 use plane::Phases;
 use plane::Phasor;
 
@@ -98,8 +98,8 @@ pub fn currents(window: &[i16], ends: usize) -> [[Phasor; 6]; 3]
 {
     let channels = samples::channels(ends);
     let mut grid = [[Phasor { re: 0, im: 0 }; 6]; 3];
-    for p in 0..3 {
-        for e in 0..ends {
+    for e in 0..ends {
+        for p in 0..3 {
             grid[p][e] = measure(window, channels, 3 + 3 * e + p);
         }
     }
@@ -114,16 +114,4 @@ pub fn local(grid: [[Phasor; 6]; 3]) -> Phases
     let b = grid[1][0];
     let c = grid[2][0];
     Phases { a, b, c }
-}
-
-// The currents of one phase, summed over the ends.
-pub fn sum_phase(grid: [[Phasor; 6]; 3], p: usize, ends: usize) -> Phasor
-    requires { ⌜ (p < 3) × (ends ≤ 6) × GridInside grid ends ⌝ }
-    ensures { λ r. ⌜ (r ≡ total (cell grid p) ends) × Inside 252000 r ⌝ }
-{
-    let mut sum = Phasor { re: 0, im: 0 };
-    for e in 0..ends {
-        sum = plane::plus(sum, grid[p][e]);
-    }
-    sum
 }

@@ -3,16 +3,18 @@ use Prim.Native.Nat.{ℕ, zero, suc, _+_, _*_, _/_, _<_, _≤_}
 use mathlib.Core.Path.{_≡_, refl, sym, ap₂, _∙_}
 use mathlib.Core.List.{List, [], _∷_}
 use mathlib.Core.Bool.{Bool, true, false, cond, _&&_}
-use native.Mathlib.Nat.{not-suc-le-zero}
+use native.Mathlib.Nat.{not-suc-le-zero, ne-of-lt}
 use native.Mathlib.Numerals.{add-one}
 use native.Mathlib.Omega.{arith}
+use borrow.Author.Count.{below-more}
 use borrow.Author.Tests.{eq-eqb, ne-eqb, le-leb, lt-leb, eqb-true, eqb-false}
 use lib.Dec.{eqb, leb}
 use lib.IntN.{ℤ, pos}
 use lib.ListN.{length, take, set, getD}
-use lib.Seq.{take-suc, take-suc-set, take-all}
+use lib.Seq.{take-suc, take-suc-set, take-all, getD-set-same, getD-set-other}
 use Rattle.whole.specs.TwosComplement.{signed}
 use Rattle.samples.specs.Window.{windowLength, numbersOf, Holds, count}
+use Rattle.samples.specs.Decoding.{LowFirst, AllLowFirst}
 
 pub numbers-length : (b : List ℕ) → length (numbersOf b) ≡ length b / 2
 unfolding numbersOf
@@ -68,6 +70,22 @@ number-at (x ∷ y ∷ b) (suc i) h =
     let high : suc (suc (2 * i)) ≡ 2 * suc i = omega arith in
     let low : suc (suc (2 * i + 1)) ≡ 2 * suc i + 1 = omega arith in
     number-at b i (omega arith) ∙ ap₂ (λ (m n : ℕ). signed (getD (x ∷ y ∷ b) m 0 * 256 + getD (x ∷ y ∷ b) n 0)) high low
+
+-- bytes so read at the front of a list, and two more
+pub low-first-more :
+    (b : List ℕ) (w : List ℤ) (i : ℕ) (x : ℤ) → i < length w → AllLowFirst b w i → LowFirst (getD b (2 * i) 0) (getD b (2 * i + 1) 0) x →
+    AllLowFirst b (set w i x) (i + 1)
+low-first-more b w i x h p here =
+    below-more (λ (k : ℕ). LowFirst (getD b (2 * k) 0) (getD b (2 * k + 1) 0) (getD (set w i x) k (pos 0))) i
+    (λ k l. rw (getD-set-other w i k x (pos 0) (λ e. ne-of-lt l e)) (p k l))
+    (rw (getD-set-same w i x (pos 0) h) here)
+
+-- those from i on, which are left
+abbrev pub Left : List ℕ → List ℤ → ℕ → ℕ → Type 0
+Left b w i n = (k : ℕ) → i ≤ k → k < n → LowFirst (getD b (2 * k) 0) (getD b (2 * k + 1) 0) (getD w k (pos 0))
+
+pub left-fewer : (b : List ℕ) (w : List ℤ) (i n : ℕ) (x : ℤ) → Left b w i n → Left b (set w i x) (i + 1) n
+left-fewer b w i n x p k l m = rw (getD-set-other w i k x (pos 0) (λ e. absurd (omega (arith, e)))) (p k (omega arith) m)
 
 -- a list filled from the front as t is, filled one place further with what t has there
 pub filled : (s t : List ℤ) (i : ℕ) → i < length s → i < length t → take i s ≡ take i t → take (i + 1) (set s i (getD t i (pos 0))) ≡ take (i + 1) t

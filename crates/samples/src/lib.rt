@@ -1,9 +1,12 @@
 // A window of samples: its numbers out of big-endian bytes, and its first missing one.
 ghost use mathlib.Core.Path.{_≡_};
-ghost use Prim.Native.Nat.{_+_, _*_, _≤_};
+ghost use mathlib.Core.Bool.{true};
+ghost use Prim.Native.Nat.{_+_, _*_, _/_, _%_, _≤_};
 ghost use lib.ListN.{length, take};
-ghost use Rattle.whole.specs.TwosComplement.{signed};
+ghost use Rattle.whole.specs.TwosComplement.{signed, unsigned};
 ghost use Rattle.samples.specs.Window.{channels, windowLength, numbersOf, count, firstMissing};
+ghost use Rattle.samples.specs.Decoding.{LowFirst, AllLowFirst};
+ghost use Rattle.samples.specs.Order.{Present};
 
 // How many frames a window has: one cycle.
 pub const FRAMES: usize = 16;
@@ -28,16 +31,19 @@ pub fn channels(ends: usize) -> usize
     3 + 3 * ends
 }
 
-// The signed number of two bytes, the high one first.
-fn number(high: u8, low: u8) -> i16
-    ensures { λ r. ⌜ r ≡ signed (high * 256 + low) ⌝ }
+// Two bytes as this processor reads a number, with the first of them low.
+fn low_first(first: u8, second: u8) -> i16
+    ensures { λ r. ⌜ LowFirst first second r ⌝ }
 {
-    let u = (high as u16) * 256 + (low as u16);
-    if u < 32768 {
-        u as i16
-    } else {
-        ((u as i32) - 65536) as i16
-    }
+    whole::signed((first as u16) + 256 * (second as u16))
+}
+
+// The number that the same two bytes are with the first of them high.
+fn high_first(x: i16) -> i16
+    ensures { λ r. ⌜ r ≡ signed (unsigned x % 256 * 256 + unsigned x / 256) ⌝ }
+{
+    let u = whole::unsigned(x);
+    whole::signed(u % 256 * 256 + u / 256)
 }
 
 // How many numbers bytes hold: none where a byte is over, or where they are more than any window has.
@@ -51,23 +57,56 @@ pub fn count(bytes: &[u8]) -> usize
     if n <= LONGEST { n } else { 0 }
 }
 
-// These numbers, at the front of an array that has room for any window.
-pub fn numbers(bytes: &[u8]) -> [i16; LONGEST]
-    ensures { λ r. ⌜ take (count (now (bytes .entry))) r ≡ take (count (now (bytes .entry))) (numbersOf (now (bytes .entry))) ⌝ }
+// The bytes of numbers, two by two with the first low, at the front of a lent slice that has room for any window.
+fn all_low_first(bytes: &[u8], samples: &mut [i16])
+    requires { ⌜ windowLength 6 ≤ length (now samples) ⌝ }
+    ensures { λ _. ⌜ AllLowFirst (now (bytes .entry)) (now (samples .exit)) (count (now (bytes .entry))) ⌝ }
 {
     let n = count(bytes);
-    let mut samples = [0i16; LONGEST];
     for i in 0..n {
-        samples[i] = number(bytes[2 * i], bytes[2 * i + 1]);
+        samples[i] = low_first(bytes[2 * i], bytes[2 * i + 1]);
     }
-    samples
 }
 
-// The first missing sample of a window, frame by frame, and in a frame channel by channel.
+// The numbers of big-endian bytes, at the front of a lent slice that has room for any window; of what stands behind them nothing is said.
+// In two passes: the first the compiler makes a plain copy of the bytes, and in the second it turns many numbers at a time; of one pass
+// that did both it would make neither.
+pub fn numbers(bytes: &[u8], samples: &mut [i16])
+    requires { ⌜ windowLength 6 ≤ length (now samples) ⌝ }
+    ensures { λ _. ⌜ take (count (now (bytes .entry))) (now (samples .exit)) ≡ take (count (now (bytes .entry))) (numbersOf (now (bytes .entry))) ⌝ }
+{
+    let n = count(bytes);
+    all_low_first(bytes, samples);
+    for i in 0..n {
+        let x = samples[i];
+        samples[i] = high_first(x);
+    }
+}
+
+// True where no number is missing; false promises nothing, and the search tells. One pass with no way out, which the compiler takes many
+// numbers at a time.
+fn all_present(window: &[i16]) -> bool
+    ensures { λ r. ⌜ (r ≡ true → Present (now (window .entry)) (length (now (window .entry)))) ⌝ }
+{
+    let mut present = true;
+    for i in 0..window.len() {
+        let x = window[i];
+        if x == MISSING {
+            present = false;
+        }
+    }
+    present
+}
+
+// The first missing sample of a window, frame by frame, and in a frame channel by channel. Where a first pass finds none missing, there is
+// no search.
 pub fn first_missing(window: &[i16], frames: usize, channels: usize) -> Found
     requires { ⌜ length (now window) ≡ frames * channels ⌝ }
     ensures { λ r. ⌜ r ≡ firstMissing (now (window .entry)) ⌝ }
 {
+    if all_present(window) {
+        return Found::Nothing;
+    }
     let mut found = Found::Nothing;
     'search: for f in 0..frames {
         for c in 0..channels {

@@ -54,6 +54,8 @@ pub data FirstFault : List Rule → List ℕ → ℕ → Type 0 where
 abbrev pub checked : List ℕ → Checked
 checked s = checkedBy table s
 
+-- ---- the same rule by rule, as the code goes
+
 -- What a test finds: nothing where a rule is kept, else a fault at an offset.
 abbrev pub judged : Bool → ℕ → Checked
 judged kept at = cond kept Good (Bad at)

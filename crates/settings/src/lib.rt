@@ -8,7 +8,7 @@ ghost use Rattle.settings.specs.Check.{within, withinSigned, judged, aft
 
 pub mod fields; // the fields by name
 
-// How many bytes a record has.
+// How many bytes a record has; `entry` says the same of any record entered twice.
 const LENGTH: usize = 32;
 
 // What a check finds: a good record, or the offset of the first fault.
@@ -46,11 +46,7 @@ pub fn signed_field(s: &[u8], at: u8) -> i64
     ensures { λ r. ⌜ r ≡ signedAt (now (s .entry)) at ⌝ }
 {
     let u = field(s, at);
-    if u < 32768 {
-        u as i64
-    } else {
-        (u as i64) - 65536
-    }
+    whole::signed(u as u16) as i64
 }
 
 // From a least to a greatest number.
@@ -87,11 +83,11 @@ fn judged(kept: bool, at: u8) -> Checked
 }
 
 // One function for each kind of rule, which goes on from what the earlier rules found: a first fault stays. A test is made only where
-// there is none yet: so it becomes a branch, and a good record passes each rule in a few instructions. An offset is a u8, so that the byte
-// after it has one too.
+// there is none yet: so it becomes a branch, and a good record passes each rule in a few instructions. An offset is a u8, and the offset
+// after it is reckoned in more bits, so that it cannot overflow.
 
 // The field at an offset is from a least to a greatest number.
-fn unsigned(found: Checked, s: &[u8], at: u8, low: u64, high: u64) -> Checked
+fn unsigned_rule(found: Checked, s: &[u8], at: u8, low: u64, high: u64) -> Checked
     ensures { λ r. ⌜ r ≡ after found (now (s .entry)) (Unsigned at low high) ⌝ }
 {
     match found {
@@ -101,7 +97,7 @@ fn unsigned(found: Checked, s: &[u8], at: u8, low: u64, high: u64) -> Checked
 }
 
 // The same of a signed field.
-fn signed(found: Checked, s: &[u8], at: u8, low: i64, high: i64) -> Checked
+fn signed_rule(found: Checked, s: &[u8], at: u8, low: i64, high: i64) -> Checked
     ensures { λ r. ⌜ r ≡ after found (now (s .entry)) (Signed at low high) ⌝ }
 {
     match found {
@@ -111,7 +107,7 @@ fn signed(found: Checked, s: &[u8], at: u8, low: i64, high: i64) -> Checked
 }
 
 // The sum of the squares of two fields is from a least to a greatest number; a fault is at the later one.
-fn squares(found: Checked, s: &[u8], x: u8, y: u8, low: u64, high: u64) -> Checked
+fn squares_rule(found: Checked, s: &[u8], x: u8, y: u8, low: u64, high: u64) -> Checked
     ensures { λ r. ⌜ r ≡ after found (now (s .entry)) (Squares x y low high) ⌝ }
 {
     match found {
@@ -124,7 +120,7 @@ fn squares(found: Checked, s: &[u8], x: u8, y: u8, low: u64, high: u64) -> Check
 }
 
 // A signed field is below another; a fault is at the later one.
-fn below(found: Checked, s: &[u8], x: u8, y: u8) -> Checked
+fn below_rule(found: Checked, s: &[u8], x: u8, y: u8) -> Checked
     ensures { λ r. ⌜ r ≡ after found (now (s .entry)) (Below x y) ⌝ }
 {
     match found {
@@ -134,7 +130,7 @@ fn below(found: Checked, s: &[u8], x: u8, y: u8) -> Checked
 }
 
 // The byte at an offset is from a least to a greatest number.
-fn one_byte(found: Checked, s: &[u8], at: u8, low: u64, high: u64) -> Checked
+fn byte_rule(found: Checked, s: &[u8], at: u8, low: u64, high: u64) -> Checked
     ensures { λ r. ⌜ r ≡ after found (now (s .entry)) (Byte at low high) ⌝ }
 {
     match found {
@@ -150,26 +146,26 @@ pub fn check(s: &[u8]) -> Checked
 {
     let record = &s[0..LENGTH]; // a slice whose length the compiler knows, so that no byte's place is tested
     let found = Checked::Good;
-    let found = unsigned(found, record, 0, 2, 6); // ends N
-    let found = unsigned(found, record, 2, 1, 100); // slope K, percent
-    let found = unsigned(found, record, 4, 1, 42000); // differential pickup, counts
-    let found = unsigned(found, record, 6, 0, 20000); // replica impedance real, thousandths
-    let found = unsigned(found, record, 8, 1, 20000); // and imaginary
-    let found = unsigned(found, record, 10, 1, 2000); // reach r, thousandths of the replica
-    let found = unsigned(found, record, 12, 0, 1000); // k real, thousandths
-    let found = signed(found, record, 14, -500, 500); // and imaginary
-    let found = unsigned(found, record, 16, 0, 1000); // line angle D real
-    let found = unsigned(found, record, 18, 0, 1000); // and imaginary
-    let found = squares(found, record, 16, 18, 998000, 1002000); // their sum of squares
-    let found = signed(found, record, 20, -20000, 20000); // forward limit zf
-    let found = signed(found, record, 22, -20000, 20000); // reverse limit zr
-    let found = below(found, record, 20, 22); // zf < zr
-    let found = unsigned(found, record, 24, 1, 42000); // pickup of 3I2, counts
-    let found = one_byte(found, record, 26, 0, 0); // zero bytes
-    let found = one_byte(found, record, 27, 0, 0);
-    let found = one_byte(found, record, 28, 0, 0);
-    let found = one_byte(found, record, 29, 0, 0);
-    let found = one_byte(found, record, 30, 0, 0);
-    let found = one_byte(found, record, 31, 0, 0);
+    let found = unsigned_rule(found, record, 0, 2, 6); // ends N
+    let found = unsigned_rule(found, record, 2, 1, 100); // slope K, percent
+    let found = unsigned_rule(found, record, 4, 1, 42000); // differential pickup, counts
+    let found = unsigned_rule(found, record, 6, 0, 20000); // replica impedance real, thousandths
+    let found = unsigned_rule(found, record, 8, 1, 20000); // and imaginary
+    let found = unsigned_rule(found, record, 10, 1, 2000); // reach r, thousandths of the replica
+    let found = unsigned_rule(found, record, 12, 0, 1000); // k real, thousandths
+    let found = signed_rule(found, record, 14, -500, 500); // and imaginary
+    let found = unsigned_rule(found, record, 16, 0, 1000); // line angle D real
+    let found = unsigned_rule(found, record, 18, 0, 1000); // and imaginary
+    let found = squares_rule(found, record, 16, 18, 998000, 1002000); // their sum of squares
+    let found = signed_rule(found, record, 20, -20000, 20000); // forward limit zf
+    let found = signed_rule(found, record, 22, -20000, 20000); // reverse limit zr
+    let found = below_rule(found, record, 20, 22); // zf < zr
+    let found = unsigned_rule(found, record, 24, 1, 42000); // pickup of 3I2, counts
+    let found = byte_rule(found, record, 26, 0, 0); // zero bytes
+    let found = byte_rule(found, record, 27, 0, 0);
+    let found = byte_rule(found, record, 28, 0, 0);
+    let found = byte_rule(found, record, 29, 0, 0);
+    let found = byte_rule(found, record, 30, 0, 0);
+    let found = byte_rule(found, record, 31, 0, 0);
     found
 }

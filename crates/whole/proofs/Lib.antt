@@ -5,6 +5,7 @@ pub mod Certificate
 pub mod Order
 pub mod Size
 pub mod Machine
+pub mod TwosComplement
 pub mod Rounding
 pub mod Remainder
 pub mod Roots

@@ -2,7 +2,7 @@
 -- That numerals, squares, and sums and products of what is not negative are not negative: `g-num`, `g-sq`, `⊞`, `⊠` of Certificate.
 use mathlib.Core.Path.{_≡_}
 use mathlib.Core.List.{[], _∷_}
-use Prim.Native.Nat.{ℕ, _*_, _≤_, _<_}
+use Prim.Native.Nat.{ℕ, _≤_, _<_}
 use native.Mathlib.Omega.{arith}
 use lib.Dec.{not-T}
 use lib.IntN.{ℤ, pos, _*ℤ_}

@@ -1,7 +1,7 @@
 -- How large a whole number is, and how `Within` goes through sums, differences and products.
 -- The bounds are numerals and compute, so that `fit (add (mul p q) (mul r s)) tt` shows that a sum of products fits an i64.
 use mathlib.Core.Path.{_≡_, refl}
-use Prim.Native.Nat.{ℕ, zero, suc, _+_, _*_, _^_, _≤_, _<_}
+use Prim.Native.Nat.{ℕ, zero, suc, _+_, _*_, _^_, _≤_}
 use native.Mathlib.Nat.{mul-le-mul}
 use native.Mathlib.Omega.{arith}
 use lib.Dec.{T, leb, ltb, leb→le, ltb→lt}

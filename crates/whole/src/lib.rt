@@ -1,4 +1,5 @@
-// Whole-number arithmetic of the relay: rounding by a divisor, the root rounded down and up, and yes and no as bits.
+// Whole-number arithmetic of the relay: rounding by a divisor, the root rounded down and up, 16 bits as a signed number and back, and
+// yes and no as bits.
 ghost use mathlib.Core.Path.{_≡_};
 ghost use mathlib.Core.Bool.{cond};
 ghost use Prim.Native.Nat.{_+_, _*_, _<_, _≤_, _^_};
@@ -7,6 +8,7 @@ ghost use lib.Signed.{_<ℤ_, shrZ};
 ghost use Rattle.whole.specs.Range.{Within};
 ghost use Rattle.whole.specs.Round.{roundBy};
 ghost use Rattle.whole.specs.Root.{floorRoot, rootUp};
+ghost use Rattle.whole.specs.TwosComplement.{signed, unsigned};
 
 // What is left of s once d has been taken off as often as it goes in: from 0 to d - 1, below zero too. The machine's own remainder has the
 // sign of s.
@@ -46,13 +48,20 @@ fn root_below(x: u64, width: u64) -> u64
     r
 }
 
-// The root rounded down: a magnitude, from its square.
-// What the relay takes roots of is below 2^50, where twenty-five steps do; of a current below 1024 counts it is below 2^32, where sixteen do.
+// The root rounded down: a magnitude, from its square. Every bit of it is a step, so a smaller number takes fewer. The relay measures in
+// sixty-fourths of a count: 8 steps do below 4 counts, 13 below 128, 17 below 2048, 22 for any end's current, and 25 for any sum of six;
+// 32 for all other numbers, of which the relay takes no root.
 pub fn floor_root(x: u64) -> u64
     ensures { λ r. ⌜ r ≡ floorRoot x ⌝ }
 {
-    if x < 4294967296 {
-        root_below(x, 65536)
+    if x < 65536 {
+        root_below(x, 256)
+    } else if x < 67108864 {
+        root_below(x, 8192)
+    } else if x < 17179869184 {
+        root_below(x, 131072)
+    } else if x < 17592186044416 {
+        root_below(x, 4194304)
     } else if x < 1125899906842624 {
         root_below(x, 33554432)
     } else {
@@ -66,6 +75,28 @@ pub fn root_up(x: u64) -> u64
 {
     let r = floor_root(x);
     if r * r < x { r + 1 } else { r }
+}
+
+// 16 bits as a signed number, two's complement: a settings field, or a sample.
+pub fn signed(v: u16) -> i16
+    ensures { λ r. ⌜ r ≡ signed v ⌝ }
+{
+    if v < 32768 {
+        v as i16
+    } else {
+        ((v as i32) - 65536) as i16
+    }
+}
+
+// And back, the same 16 bits.
+pub fn unsigned(z: i16) -> u16
+    ensures { λ r. ⌜ r ≡ unsigned z ⌝ }
+{
+    if z < 0 {
+        ((z as i32) + 65536) as u16
+    } else {
+        z as u16
+    }
 }
 
 // One bit in front of others, which then weigh twice as much.

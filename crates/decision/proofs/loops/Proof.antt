@@ -1,10 +1,10 @@
 -- `decision::loops` meets its contract: the reach in force is in range. Assumes nothing.
 use mathlib.Core.Path.{ap₂, _∙_}
 use borrow.Author.Needs.{needs}
-use Rattle.whole.specs.Range.{Within}
 use Rattle.whole.proofs.Machine.{back}
 use Rattle.whole.proofs.Size.{along}
 use Rattle.distance.specs.Mho.{loopBits}
+use Rattle.distance.proofs.Sizes.{reach-within}
 use Rattle.decision.proofs.loops.Statement.{statement}
 use Rattle.decision.proofs.loops.Tie as tie
 
@@ -18,8 +18,7 @@ bits-at-requires : tie.Need-bits-at-requires
 bits-at-requires c κs =
     let k = c .before in
     let range = k .before .before .pre .0 in
-    let at-most : Within 2000 (k .reach .result) = along (k .reach .ensures) (record { size = range .reach-range .most }) in
-    simp (back (k .reach .result) (k .reach .ok)) (range, at-most, c .loops .ensures .1)
+    simp (back (k .reach .result) (k .reach .ok)) (range, along (k .reach .ensures) (reach-within range), c .loops .ensures .1)
 
 returns : tie.Need-returns
 returns c =

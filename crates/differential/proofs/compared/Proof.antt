@@ -1,39 +1,125 @@
--- `differential::compared` meets its contract: the sum over the ends is within 252000, which bounds s. Assumes nothing.
-use mathlib.Core.Path.{_≡_, ap, _∙_}
+-- `differential::compared` meets its contract. The invariant: both sums over the ends passed; the differential is within 252000, which
+-- bounds s. Assumes nothing.
+use mathlib.Core.Path.{_≡_, refl, sym, ap, _∙_}
+use Prim.Native.Nat.{_-_, _*_, _≤_}
 use native.Mathlib.Omega.{arith}
 use borrow.Author.Needs.{needs}
-use Rattle.plane.specs.Plane.{squaredMagnitude}
+use Rattle.whole.specs.Sum.{sumOf}
+use Rattle.plane.specs.declared.Phasor.{Phasor}
+use Rattle.plane.specs.Plane.{Inside, plus, squaredMagnitude}
+use Rattle.plane.proofs.Bounds.{inside-wider, inside-along}
 use Rattle.plane.proofs.Laws.{squared-magnitude-most}
-use Rattle.phasors.specs.Grid.{cell}
-use Rattle.differential.specs.Differential.{square}
+use Rattle.phasors.specs.Grid.{cell, total}
+use Rattle.phasors.proofs.Totals.{total-next, phase-inside}
+use Rattle.differential.specs.Differential.{square, restraint, endMost}
+use Rattle.differential.proofs.Sizes.{restraint-next}
 use Rattle.differential.proofs.compared.Statement.{statement}
 use Rattle.differential.proofs.compared.Tie as tie
 
+abbrev Inv-loop : tie.InvT-loop
+Inv-loop p ends grid sum₀ restraint₀ e₀ sum u e =
+    (sum ≡ total (cell grid p) e) × (u ≡ restraint (cell grid p) e) × (u ≤ endMost * e) × (e ≤ ends)
+
+abbrev μ-loop : tie.MeasureT-loop
+μ-loop p ends grid sum₀ restraint₀ e₀ sum restraint e = ends - e
+
+loop-holds : tie.Need-loop-holds Inv-loop μ-loop
+unfolding total restraint sumOf
+loop-holds c = (refl, refl, search needs, search needs)
+
+mul-i : tie.Need-mul-i Inv-loop μ-loop
+mul-i c = search needs
+
+mul-i-2 : tie.Need-mul-i-2 Inv-loop μ-loop
+mul-i-2 c = search needs
+
+index-1-i : tie.Need-index-1-i Inv-loop μ-loop
+index-1-i c = search needs
+
+index-2-i : tie.Need-index-2-i Inv-loop μ-loop
+index-2-i c = search needs
+
+-- the sum so far
+small : (c : tie.At-loop Inv-loop μ-loop) → Inside 252000 (c .loop .sum)
+small c =
+    let a = c .before .args in
+    let h = c .before .pre in
+    inside-along (c .loop .inv .0) (phase-inside (a .t1) (a .p) (a .ends) (c .loop .e) (h .2) (h .0) (c .loop .inv .3) (h .1))
+
+-- the current of the end at hand
+current : (c : tie.In-loop Inv-loop μ-loop) → Inside 42000 (cell (c .before .before .args .t1) (c .before .before .args .p) (c .before .loop .e))
+current c =
+    let h = c .before .before .pre in
+    h .2 (c .before .before .args .p) (c .before .loop .e) (h .0) (c .loop-test .taken)
+
+plus-requires : tie.Need-plus-requires Inv-loop μ-loop
+plus-requires c κs = (inside-wider (small (c .before .before)) tt, inside-wider (current (c .before)) tt)
+
+end-restraint-requires : tie.Need-end-restraint-requires Inv-loop μ-loop
+end-restraint-requires c κs = current (c .before .before)
+
+add-restraint : tie.Need-add-restraint Inv-loop μ-loop
+add-restraint c = search needs
+
+add-e : tie.Need-add-e Inv-loop μ-loop
+add-e c = search needs
+
+loop-less : tie.Need-loop-less Inv-loop μ-loop
+loop-less c = search needs
+
+loop-again : tie.Need-loop-again Inv-loop μ-loop
+loop-again c =
+    let l = c .before .before .before .before in
+    let i = cell (l .before .args .t1) (l .before .args .p) in
+    let e = l .loop .e in (
+      c .before .plus .ensures ∙ ap (λ (s : Phasor). plus s (i e)) (l .loop .inv .0) ∙ sym (total-next i e),
+      omega (arith, l .loop .inv .1, c .end-restraint .ensures .0, restraint-next i e),
+      search needs,
+      search needs,
+    )
+
+squared-magnitude-requires : tie.Need-squared-magnitude-requires Inv-loop μ-loop
+squared-magnitude-requires c κs = inside-wider (small (c .before)) tt
+
+-- s, once every end has been passed
 square-is :
-    (c : tie.After-squared-magnitude) → let a = c .before .before .args in
-    c .squared-magnitude .result ≡ square (cell (a .grid) (a .p)) (a .ends)
+    (c : tie.After-squared-magnitude Inv-loop μ-loop) → let a = c .before .before .before .args in
+    c .squared-magnitude .result ≡ square (cell (a .t1) (a .p)) (a .ends)
 unfolding square
-square-is c = c .squared-magnitude .ensures ∙ ap squaredMagnitude (c .before .sum-phase .ensures .0)
+square-is c =
+    let l = c .before .before in
+    let past : l .loop .e ≡ l .before .args .ends = omega arith in
+    c .squared-magnitude .ensures ∙ ap squaredMagnitude (rw (sym past) (l .loop .inv .0))
 
-sum-phase-requires : tie.Need-sum-phase-requires
-sum-phase-requires c κs = search needs
-
-squared-magnitude-requires : tie.Need-squared-magnitude-requires
-squared-magnitude-requires c κs = search needs
-
-restraint-requires : tie.Need-restraint-requires
-restraint-requires c κs = search needs
-
-returns : tie.Need-returns
+returns : tie.Need-returns Inv-loop μ-loop
 returns c =
-    let s = c .before in
-    let u = c .restraint .ensures in (
-      (λ k. record { square = square-is s k; restraint = u .0 k }),
+    let l = c .before .before in
+    let a = l .before .args in
+    let past : l .loop .e ≡ a .ends = omega arith in
+    let u : l .loop .restraint ≡ restraint (cell (a .t1) (a .p)) (a .ends) = rw (sym past) (l .loop .inv .1) in (
+      (λ k. record { square = square-is c k; restraint = u k }),
       record {
-        square-size = omega (arith, s .squared-magnitude .ensures, squared-magnitude-most (s .before .sum-phase .ensures .1));
-        restraint-size = u .1;
+        square-size = omega (arith, c .squared-magnitude .ensures, squared-magnitude-most (small l));
+        restraint-size = omega arith;
       },
     )
 
 pub compared-spec : {M : Type 1} → statement M
-compared-spec = tie.close (tie.spec sum-phase-requires squared-magnitude-requires restraint-requires returns)
+compared-spec =
+    tie.close
+    (tie.spec
+    Inv-loop
+    μ-loop
+    loop-holds
+    mul-i
+    mul-i-2
+    index-1-i
+    index-2-i
+    plus-requires
+    end-restraint-requires
+    add-restraint
+    add-e
+    loop-less
+    loop-again
+    squared-magnitude-requires
+    returns)

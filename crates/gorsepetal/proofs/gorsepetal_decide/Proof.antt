@@ -10,6 +10,9 @@ use Rattle.gorsepetal.proofs.gorsepetal_decide.Tie as tie
 count-requires : tie.Need-count-requires
 count-requires c κs = search needs
 
+slice-aggregate-numbers : tie.Need-slice-aggregate-numbers
+slice-aggregate-numbers c = search needs
+
 numbers-requires : tie.Need-numbers-requires
 numbers-requires c κs = search needs
 
@@ -34,9 +37,9 @@ same-length c = search needs
 returns : tie.Need-returns
 returns c =
     let d = c .before .before .before in
-    let m = d .before .before .before .before in
-    let k = m .before .count .ensures in
-    let taken = ap (λ n. take n (m .numbers .result)) (sub-zero _ ∙ k .0) ∙ m .numbers .ensures in
+    let m = d .before .before .before .before .before in
+    let k = m .before .before .count .ensures in
+    let taken = ap (λ n. take n (m .numbers2 .last .1 .0)) (sub-zero _ ∙ k .0) ∙ m .numbers2 .ensures in
     decide-bytes _ _ _ _ taken (rw (← k .0) (k .1)) _ _ _ (c .given-back .ensures) (d .decide .ensures)
 
 pub gorsepetal-decide-spec : {M : Type 1} → statement M
@@ -44,6 +47,7 @@ gorsepetal-decide-spec =
     tie.close
     (tie.spec
     count-requires
+    slice-aggregate-numbers
     numbers-requires
     sub-decide
     part-decide-start

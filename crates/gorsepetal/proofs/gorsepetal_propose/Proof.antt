@@ -10,8 +10,8 @@ given-back-requires c κs = search needs
 returns : tie.Need-returns
 returns c = search (needs, propose-17)
 
-verdict-requires : tie.Need-verdict-requires
-verdict-requires c κs = search needs
+propose-answer-requires : tie.Need-propose-answer-requires
+propose-answer-requires c κs = search needs
 
 propose-requires : tie.Need-propose-requires
 propose-requires c κs = search needs
@@ -31,7 +31,7 @@ gorsepetal-propose-spec =
     (tie.spec
     given-back-requires
     returns
-    verdict-requires
+    propose-answer-requires
     propose-requires
     given-back-requires-2
     same-length

@@ -1,4 +1,4 @@
--- `gorsepetal::present` meets its contract: the test on the verdict picks the case. Assumes nothing.
+-- `gorsepetal::present` meets its contract: the test on the answer picks the case. Assumes nothing.
 use mathlib.Core.Path.{sym, ap, _∙_}
 use borrow.Author.Needs.{needs}
 use borrow.Author.Tests.{eq-eqb}
@@ -6,8 +6,8 @@ use Rattle.answers.specs.Answers.{isDone}
 use Rattle.gorsepetal.proofs.present.Statement.{statement}
 use Rattle.gorsepetal.proofs.present.Tie as tie
 
-verdict-requires : tie.Need-verdict-requires
-verdict-requires c κs = search needs
+propose-answer-requires : tie.Need-propose-answer-requires
+propose-answer-requires c κs = search needs
 
 is-done-requires : tie.Need-is-done-requires
 is-done-requires c κs = search needs
@@ -15,14 +15,14 @@ is-done-requires c κs = search needs
 returns : tie.Need-returns
 returns c =
     let k = c .before .before in
-    let v = rw (eq-eqb _ 32 (k .before .before .pre)) at (k .verdict .ensures) in
+    let v = rw (eq-eqb _ 32 (k .before .before .pre)) at (k .propose-answer .ensures) in
     rw (sym (ap isDone v) ∙ sym (c .before .is-done .ensures) ∙ c .if1 .taken)
 
 returns-2 : tie.Need-returns-2
 returns-2 c =
     let k = c .before .before in
-    let v = rw (eq-eqb _ 32 (k .before .before .pre)) at (k .verdict .ensures) in
+    let v = rw (eq-eqb _ 32 (k .before .before .pre)) at (k .propose-answer .ensures) in
     rw (sym (ap isDone v) ∙ sym (c .before .is-done .ensures) ∙ c .if1 .left)
 
 pub present-spec : {M : Type 1} → statement M
-present-spec = tie.close (tie.spec verdict-requires is-done-requires returns returns-2)
+present-spec = tie.close (tie.spec propose-answer-requires is-done-requires returns returns-2)

@@ -1,4 +1,4 @@
--- `phasors::currents` meets its contract. The invariant: what stands before the phase and the end is measured. Assumes nothing.
+-- `phasors::currents` meets its contract. The invariant: what stands before the end and the phase is measured. Assumes nothing.
 use mathlib.Core.Path.{_≡_, refl}
 use mathlib.Core.List.{List}
 use Prim.Native.Nat.{ℕ, _-_, _≤_}
@@ -10,7 +10,7 @@ use Rattle.plane.specs.declared.Phasor.{Phasor}
 use Rattle.plane.specs.Plane.{Inside}
 use Rattle.phasors.specs.Rate.{sixteen}
 use Rattle.phasors.specs.Grid.{current}
-use Rattle.phasors.proofs.Cells.{Upto, upto-none, upto-put, upto-phase}
+use Rattle.phasors.proofs.Cells.{Upto, upto-none, upto-put, upto-end}
 use Rattle.phasors.proofs.currents.Statement.{statement}
 use Rattle.phasors.proofs.currents.Tie as tie
 
@@ -19,22 +19,22 @@ abbrev Measured : List ℤ → ℕ → ℕ → ℕ → Phasor → Type 0
 Measured w ends p e x = (x ≡ current sixteen w ends p e) × Inside 42000 x
 
 abbrev Inv-loop2 : tie.InvT-loop2
-Inv-loop2 window ends channels grid₀ p e₀ grid e = (e ≤ ends) × Upto (Measured window ends) ends p e grid
+Inv-loop2 window ends channels grid₀ e p₀ grid p = (p ≤ 3) × Upto (Measured window ends) e p grid
 
 abbrev μ-loop2 : tie.MeasureT-loop2
-μ-loop2 window ends channels grid₀ p e₀ grid e = ends - e
+μ-loop2 window ends channels grid₀ e p₀ grid p = 3 - p
 
 abbrev Inv-loop : tie.InvT-loop
-Inv-loop window ends channels grid₀ p₀ grid p = (p ≤ 3) × Upto (Measured window ends) ends p 0 grid
+Inv-loop window ends channels grid₀ e₀ grid e = (e ≤ ends) × Upto (Measured window ends) e 0 grid
 
 abbrev μ-loop : tie.MeasureT-loop
-μ-loop window ends channels grid₀ p₀ grid p = 3 - p
+μ-loop window ends channels grid₀ e₀ grid e = ends - e
 
 channels-requires : tie.Need-channels-requires Inv-loop2 μ-loop2 Inv-loop μ-loop
 channels-requires c κs = search needs
 
 loop-holds : tie.Need-loop-holds Inv-loop2 μ-loop2 Inv-loop μ-loop
-loop-holds c = (search needs, upto-none _ _ _ _ _ refl refl refl)
+loop-holds c = (search needs, upto-none _ _ _ _ refl refl refl)
 
 loop2-holds : tie.Need-loop2-holds Inv-loop2 μ-loop2 Inv-loop μ-loop
 loop2-holds c = (search needs, c .before .loop .inv .1)
@@ -63,8 +63,8 @@ index-1-grid c = search needs
 index-2-grid : tie.Need-index-2-grid Inv-loop2 μ-loop2 Inv-loop μ-loop
 index-2-grid c = search needs
 
-add-e : tie.Need-add-e Inv-loop2 μ-loop2 Inv-loop μ-loop
-add-e c = search needs
+add-p : tie.Need-add-p Inv-loop2 μ-loop2 Inv-loop μ-loop
+add-p c = search needs
 
 loop2-less : tie.Need-loop2-less Inv-loop2 μ-loop2 Inv-loop μ-loop
 loop2-less c = search needs
@@ -76,22 +76,22 @@ loop2-again c =
     let a = l .before .before .args in
     let P = Measured (now (a .window)) (a .ends) in
     let here = rw (l .before .channels .ensures) at (c .measure .ensures) in
-    (search needs, upto-put P (a .ends) (l .loop .p) (m .loop2 .grid) (m .loop2 .e) _ (m .loop2 .inv .1) (omega arith) (omega arith) here)
+    (search needs, upto-put P (l .loop .e) (m .loop2 .grid) (m .loop2 .p) _ (m .loop2 .inv .1) (omega arith) (omega arith) here)
 
-add-p : tie.Need-add-p Inv-loop2 μ-loop2 Inv-loop μ-loop
-add-p c = search needs
+add-e : tie.Need-add-e Inv-loop2 μ-loop2 Inv-loop μ-loop
+add-e c = search needs
 
 loop-less : tie.Need-loop-less Inv-loop2 μ-loop2 Inv-loop μ-loop
 loop-less c = search needs
 
 loop-again : tie.Need-loop-again Inv-loop2 μ-loop2 Inv-loop μ-loop
-loop-again c = (search needs, upto-phase _ _ _ _ _ (c .loop2-test .left) (c .before .loop2 .inv .1))
+loop-again c = (search needs, upto-end _ _ _ _ (c .loop2-test .left) (c .before .loop2 .inv .1))
 
 returns : tie.Need-returns Inv-loop2 μ-loop2 Inv-loop μ-loop
 returns c =
-    let all = c .before .loop .inv .1 .phases in record {
-      measured = (λ p e h k. all p e (omega arith) k .0);
-      inside = (λ p e h k. all p e (omega arith) k .1);
+    let all = c .before .loop .inv .1 .ends in record {
+      measured = (λ p e h k. all p e h (omega arith) .0);
+      inside = (λ p e h k. all p e h (omega arith) .1);
     }
 
 pub currents-spec : {M : Type 1} → statement M
@@ -113,10 +113,10 @@ currents-spec =
     mul-t18
     index-1-grid
     index-2-grid
-    add-e
+    add-p
     loop2-less
     loop2-again
-    add-p
+    add-e
     loop-less
     loop-again
     returns)

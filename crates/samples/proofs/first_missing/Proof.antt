@@ -34,21 +34,28 @@ Inv-search window frames channels found₀ f₀ found f = (f ≤ frames) × (fou
 abbrev μ-search : tie.MeasureT-search
 μ-search window frames channels found₀ f₀ found f = frames - f
 
+all-present-requires : tie.Need-all-present-requires Inv-loop μ-loop Inv-search μ-search
+all-present-requires c κs = search needs
+
+returns : tie.Need-returns Inv-loop μ-loop Inv-search μ-search
+returns c =
+    is-first (now (c .before .before .args .window)) Nothing (c .before .all-present .ensures (c .if1 .taken))
+
 search-holds : tie.Need-search-holds Inv-loop μ-loop Inv-search μ-search
 search-holds c = search needs
 
 loop-holds : tie.Need-loop-holds Inv-loop μ-loop Inv-search μ-search
 loop-holds c =
     let s = c .before in
-    (omega arith, s .search .inv .1, present-at (now (s .before .args .window)) (omega arith) (s .search .inv .2))
+    (omega arith, s .search .inv .1, present-at (now (s .before .before .before .args .window)) (omega arith) (s .search .inv .2))
 
 -- the place of a channel lies in the window
 inside :
     (c : tie.In-loop Inv-loop μ-loop Inv-search μ-search) →
-    c .before .before .before .search .f * c .before .before .before .before .args .channels + c .before .loop .c < length (now (c .before .before .before .before .args .window))
+    c .before .before .before .search .f * c .before .before .before .before .before .before .args .channels + c .before .loop .c < length (now (c .before .before .before .before .before .before .args .window))
 inside c =
     let s = c .before .before .before in
-    omega (arith, s .before .pre, earlier (s .before .args .channels) (s .search .f) (c .before .loop .c) (s .before .args .frames) (omega arith) (omega arith))
+    omega (arith, s .before .before .before .pre, earlier (s .before .before .before .args .channels) (s .search .f) (c .before .loop .c) (s .before .before .before .args .frames) (omega arith) (omega arith))
 
 mul-at : tie.Need-mul-at Inv-loop μ-loop Inv-search μ-search
 mul-at c = omega (arith, inside c)
@@ -72,10 +79,10 @@ loop-again : tie.Need-loop-again Inv-loop μ-loop Inv-search μ-search
 loop-again c =
     let l = c .before .before .before in
     let s = l .before .before in
-    let w : List ℤ = now (s .before .args .window) in (
+    let w : List ℤ = now (s .before .before .before .args .window) in (
       omega arith,
       l .loop .inv .1,
-      present-at w (omega arith) (below-more (λ k. Missing w k → ⊥) (s .search .f * s .before .args .channels + l .loop .c) (l .loop .inv .2) (λ m. c .if1 .left (ap (ofZ w16) m))),
+      present-at w (omega arith) (below-more (λ k. Missing w k → ⊥) (s .search .f * s .before .before .before .args .channels + l .loop .c) (l .loop .inv .2) (λ m. c .if2 .left (ap (ofZ w16) m))),
     )
 
 add-f : tie.Need-add-f Inv-loop μ-loop Inv-search μ-search
@@ -88,21 +95,21 @@ search-again : tie.Need-search-again Inv-loop μ-loop Inv-search μ-search
 search-again c =
     let l = c .before in
     let s = l .before .before in
-    (omega arith, l .loop .inv .1, present-at (now (s .before .args .window)) (omega arith) (l .loop .inv .2))
-
-returns : tie.Need-returns Inv-loop μ-loop Inv-search μ-search
-returns c =
-    let s = c .before in
-    let done : s .search .f ≡ s .before .args .frames = omega arith in
-    let w : List ℤ = now (s .before .args .window) in
-    s .search .inv .1 ∙ is-first w Nothing (present-at w (rw done (sym (s .before .pre))) (s .search .inv .2))
+    (omega arith, l .loop .inv .1, present-at (now (s .before .before .before .args .window)) (omega arith) (l .loop .inv .2))
 
 returns-2 : tie.Need-returns-2 Inv-loop μ-loop Inv-search μ-search
 returns-2 c =
+    let s = c .before in
+    let done : s .search .f ≡ s .before .before .before .args .frames = omega arith in
+    let w : List ℤ = now (s .before .before .before .args .window) in
+    s .search .inv .1 ∙ is-first w Nothing (present-at w (rw done (sym (s .before .before .before .pre))) (s .search .inv .2))
+
+returns-3 : tie.Need-returns-3 Inv-loop μ-loop Inv-search μ-search
+returns-3 c =
     let l = c .before .before .before in
     let s = l .before .before in
-    is-first (now (s .before .args .window)) (At (s .search .f * s .before .args .channels + l .loop .c))
-    (inside (c .before .before), sym (toZ-ofZ (record { sfits = c .before .x .given })) ∙ ap (toZ w16) (c .if1 .taken), l .loop .inv .2)
+    is-first (now (s .before .before .before .args .window)) (At (s .search .f * s .before .before .before .args .channels + l .loop .c))
+    (inside (c .before .before), sym (toZ-ofZ (record { sfits = c .before .x .given })) ∙ ap (toZ w16) (c .if2 .taken), l .loop .inv .2)
 
 pub first-missing-spec : {M : Type 1} → statement M
 first-missing-spec =
@@ -112,6 +119,8 @@ first-missing-spec =
     μ-loop
     Inv-search
     μ-search
+    all-present-requires
+    returns
     search-holds
     loop-holds
     mul-at
@@ -124,5 +133,5 @@ first-missing-spec =
     add-f
     search-less
     search-again
-    returns
-    returns-2)
+    returns-2
+    returns-3)

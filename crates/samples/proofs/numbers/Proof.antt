@@ -1,6 +1,7 @@
--- `samples::numbers` meets its contract. The invariant: the numbers so far are the first of the bytes' numbers. Assumes nothing.
+-- `samples::numbers` meets its contract. The invariant: before i stand the first of the bytes' numbers, and from i on the bytes as they
+-- were read. Assumes nothing.
 use Prim.Native.Nat.{ℕ, _-_, _≤_}
-use mathlib.Core.Path.{_≡_, sym, _∙_}
+use mathlib.Core.Path.{_≡_, _∙_}
 use mathlib.Core.List.{List}
 use native.Mathlib.Omega.{arith}
 use borrow.Author.Needs.{needs}
@@ -8,46 +9,44 @@ use denote.Ref.{now}
 use lib.ListN.{length, take}
 use mir.Syntax.{w16}
 use mir.Val.{toZ, ofZ}
-use Rattle.samples.specs.Window.{windowLength, numbersOf}
-use Rattle.samples.proofs.Bytes.{numbers-length, number-at, filled}
+use mir.Facts.{toZ-ofZ}
+use Rattle.samples.specs.Window.{numbersOf}
+use Rattle.samples.proofs.Bytes.{numbers-length, number-at, Left, left-fewer, filled}
 use Rattle.samples.proofs.numbers.Statement.{statement}
 use Rattle.samples.proofs.numbers.Tie as tie
 
 abbrev Inv-loop : tie.InvT-loop
-Inv-loop bytes n samples₀ i₀ samples i = (i ≤ n) × (take i samples ≡ take i (numbersOf bytes)) × (length samples ≡ windowLength 6)
+Inv-loop bytes samples₀ n i₀ samples i =
+    (i ≤ n) × (take i samples ≡ take i (numbersOf bytes)) × Left bytes samples i n × (length samples ≡ length samples₀)
 
 abbrev μ-loop : tie.MeasureT-loop
-μ-loop bytes n samples₀ i₀ samples i = n - i
+μ-loop bytes samples₀ n i₀ samples i = n - i
 
 count-requires : tie.Need-count-requires Inv-loop μ-loop
 count-requires c κs = search needs
 
+all-low-first-requires : tie.Need-all-low-first-requires Inv-loop μ-loop
+all-low-first-requires c κs = search needs
+
 loop-holds : tie.Need-loop-holds Inv-loop μ-loop
-loop-holds c = search needs
+loop-holds c =
+    let all = rw (← c .before .before .before .count .ensures .0) at (c .before .all-low-first .ensures) in
+    (search needs, search needs, λ k l m. all k m, search needs)
 
-mul-number : tie.Need-mul-number Inv-loop μ-loop
-mul-number c = search needs
+mul-x : tie.Need-mul-x Inv-loop μ-loop
+mul-x c = search needs
 
-shared-slice-read-number : tie.Need-shared-slice-read-number Inv-loop μ-loop
-shared-slice-read-number c = search needs
+slice-copy-out-x : tie.Need-slice-copy-out-x Inv-loop μ-loop
+slice-copy-out-x c = search needs
 
-mul-number-2 : tie.Need-mul-number-2 Inv-loop μ-loop
-mul-number-2 c = search needs
+high-first-requires : tie.Need-high-first-requires Inv-loop μ-loop
+high-first-requires c κs = search needs
 
-add-number : tie.Need-add-number Inv-loop μ-loop
-add-number c = search needs
+mul-t10 : tie.Need-mul-t10 Inv-loop μ-loop
+mul-t10 c = search needs
 
-shared-slice-read-number-2 : tie.Need-shared-slice-read-number-2 Inv-loop μ-loop
-shared-slice-read-number-2 c = search needs
-
-number-requires : tie.Need-number-requires Inv-loop μ-loop
-number-requires c κs = search needs
-
-mul-samples : tie.Need-mul-samples Inv-loop μ-loop
-mul-samples c = search needs
-
-array-set-from-samples : tie.Need-array-set-from-samples Inv-loop μ-loop
-array-set-from-samples c = search needs
+slice-set-from-samples : tie.Need-slice-set-from-samples Inv-loop μ-loop
+slice-set-from-samples c = search needs
 
 add-i : tie.Need-add-i Inv-loop μ-loop
 add-i c = search needs
@@ -57,22 +56,30 @@ loop-less c = search needs
 
 loop-again : tie.Need-loop-again Inv-loop μ-loop
 loop-again c =
-    let l = c .before .before .before .before in
-    let few = l .before .count .ensures .1 in
-    let b : List ℕ = now (l .before .before .before .args .bytes) in
+    let l = c .before .before .before in
+    let s = l .before .before .before .before in
+    let few = s .count .ensures .1 in
+    let b : List ℕ = now (s .before .before .args .bytes) in
     let i : ℕ = l .loop .i in
-    let stored : toZ w16 (ofZ w16 (c .number .result)) ≡ c .number .result = search needs in (
+    let pair = l .loop .inv .2 i (omega arith) (omega arith) in
+    let stored : toZ w16 (ofZ w16 (c .high-first .result)) ≡ c .high-first .result = search needs in
+    let number = stored ∙ (rw (toZ-ofZ (record { sfits = c .before .x .given })) at (c .high-first .ensures)) in (
       search needs,
-      rw (stored ∙ c .number .ensures ∙ sym (number-at b i (omega (arith, few))))
-          (filled (l .loop .samples) (numbersOf b) i (omega arith) (omega (arith, few, numbers-length b)) (l .loop .inv .1)),
+      rw (number, pair .0, pair .1, ← number-at b i (omega (arith, few)))
+          (filled (l .loop .samples) (numbersOf b) i (search needs) (omega (arith, few, numbers-length b)) (l .loop .inv .1)),
+      left-fewer b (l .loop .samples) i (s .count .result) _ (l .loop .inv .2),
       search needs,
     )
+
+same-length : tie.Need-same-length Inv-loop μ-loop
+same-length c = search needs
 
 returns : tie.Need-returns Inv-loop μ-loop
 returns c =
     let l = c .before in
-    let all : l .loop .i ≡ l .before .count .result = omega arith in
-    rw (← l .before .count .ensures .0, ← all) (l .loop .inv .1)
+    let n = l .before .before .before .before .count in
+    let all : l .loop .i ≡ n .result = omega arith in
+    rw (← n .ensures .0, ← all) (l .loop .inv .1)
 
 pub numbers-spec : {M : Type 1} → statement M
 numbers-spec =
@@ -81,16 +88,15 @@ numbers-spec =
     Inv-loop
     μ-loop
     count-requires
+    all-low-first-requires
     loop-holds
-    mul-number
-    shared-slice-read-number
-    mul-number-2
-    add-number
-    shared-slice-read-number-2
-    number-requires
-    mul-samples
-    array-set-from-samples
+    mul-x
+    slice-copy-out-x
+    high-first-requires
+    mul-t10
+    slice-set-from-samples
     add-i
     loop-less
     loop-again
+    same-length
     returns)

@@ -1,30 +1,32 @@
--- `settings::signed_field` meets its contract: the two cases of two's complement. Assumes nothing.
-use mathlib.Core.Path.{ap, _∙_}
-use borrow.Author.Needs.{needs}
+-- `settings::signed_field` meets its contract: the field's 16 bits, read as a signed number. Assumes nothing.
+use mathlib.Core.Path.{_≡_, ap, _∙_}
+use mir.Syntax.{w16, w64}
+use mir.Val.{SFits, toZ, ofZ}
+use mir.Facts.{toZ-ofZ, sfits-widen}
 use Rattle.whole.specs.TwosComplement.{signed}
-use Rattle.settings.proofs.TwosComplement.{low, high, high-fits}
+use borrow.Author.Needs.{needs}
 use Rattle.settings.proofs.signed_field.Statement.{statement}
 use Rattle.settings.proofs.signed_field.Tie as tie
 
 field-requires : tie.Need-field-requires
 field-requires c κs = search needs
 
+cast-signed : tie.Need-cast-signed
+cast-signed c = search needs
+
+signed-requires : tie.Need-signed-requires
+signed-requires c κs = search needs
+
 cast-result : tie.Need-cast-result
-cast-result c = search needs
-
-cast-result-2 : tie.Need-cast-result-2
-cast-result-2 c = search needs
-
-sub-result : tie.Need-sub-result
-sub-result c = let u = c .before .field in high-fits (u .result) (c .if1 .left) (u .ensures .1)
+cast-result c =
+    let f : SFits w16 (c .signed .result) = record { sfits = c .signed .ok } in rw (toZ-ofZ f) (sfits-widen tt f)
 
 returns : tie.Need-returns
-returns c = let u = c .before .field in low (u .result) (c .if1 .taken) ∙ ap signed (u .ensures .0)
-
-returns-2 : tie.Need-returns-2
-returns-2 c =
-    let u = c .before .field in high (u .result) (c .if1 .left) (u .ensures .1) ∙ ap signed (u .ensures .0)
+returns c =
+    let f : SFits w16 (c .signed .result) = record { sfits = c .signed .ok } in
+    let kept : toZ w64 (ofZ w64 (c .signed .result)) ≡ c .signed .result = toZ-ofZ (sfits-widen tt f) in
+    rw (toZ-ofZ f) (kept ∙ c .signed .ensures ∙ ap signed (c .before .field .ensures .0))
 
 pub signed-field-spec : {M : Type 1} → statement M
 signed-field-spec =
-    tie.close (tie.spec field-requires cast-result cast-result-2 sub-result returns returns-2)
+    tie.close (tie.spec field-requires cast-signed signed-requires cast-result returns)

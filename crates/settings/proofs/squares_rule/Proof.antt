@@ -1,8 +1,8 @@
--- `settings::squares` meets its contract: a first fault stays, else the test decides. Assumes nothing.
+-- `settings::squares_rule` meets its contract: a first fault stays, else the test decides. Assumes nothing.
 use borrow.Author.Needs.{needs}
 use Rattle.settings.specs.Check.{after}
-use Rattle.settings.proofs.squares.Statement.{statement}
-use Rattle.settings.proofs.squares.Tie as tie
+use Rattle.settings.proofs.squares_rule.Statement.{statement}
+use Rattle.settings.proofs.squares_rule.Tie as tie
 
 returns : tie.Need-returns
 unfolding after
@@ -16,8 +16,8 @@ returns-2 c =
     let h = rw (b .between .ensures, b .before .sum-of-squares .ensures, x .field .ensures .0, b .before .before .field2 .ensures .0) at (c .judged .ensures) in
     rw (x .before .enum-told .given .1) h
 
-pub squares-spec : {M : Type 1} → statement M
-squares-spec =
+pub squares-rule-spec : {M : Type 1} → statement M
+squares-rule-spec =
     tie.close
     (tie.spec
     (λ c. search needs) (λ c. search needs)

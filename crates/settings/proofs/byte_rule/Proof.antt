@@ -1,8 +1,8 @@
--- `settings::one_byte` meets its contract: a first fault stays, else the test decides. Assumes nothing.
+-- `settings::byte_rule` meets its contract: a first fault stays, else the test decides. Assumes nothing.
 use borrow.Author.Needs.{needs}
 use Rattle.settings.specs.Check.{after}
-use Rattle.settings.proofs.one_byte.Statement.{statement}
-use Rattle.settings.proofs.one_byte.Tie as tie
+use Rattle.settings.proofs.byte_rule.Statement.{statement}
+use Rattle.settings.proofs.byte_rule.Tie as tie
 
 returns : tie.Need-returns
 unfolding after
@@ -12,8 +12,8 @@ returns-2 : tie.Need-returns-2
 unfolding after
 returns-2 c = rw (c .before .before .before .enum-told .given .1) cc
 
-pub one-byte-spec : {M : Type 1} → statement M
-one-byte-spec =
+pub byte-rule-spec : {M : Type 1} → statement M
+byte-rule-spec =
     tie.close
     (tie.spec
     (λ c. search needs) (λ c. search needs)

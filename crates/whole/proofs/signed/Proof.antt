@@ -1,17 +1,17 @@
--- `samples::number` meets its contract: the two cases of two's complement. Assumes nothing.
-use Prim.Native.Nat.{ℕ, _-_, _<_, _≤_}
+-- `whole::signed` meets its contract: the two cases of two's complement. Assumes nothing.
+use Prim.Native.Nat.{ℕ, _<_, _≤_}
 use mathlib.Core.Path.{_≡_}
 use native.Mathlib.Omega.{arith}
 use borrow.Author.Needs.{needs}
 use borrow.Author.Tests.{lt-ltb, le-ltb}
-use lib.IntN.{pos, negsuc, _-ℤ_}
+use lib.IntN.{pos, _-ℤ_}
 use mir.Syntax.{w16, w32}
 use mir.Val.{SFits, toZ, ofZ}
 use mir.Facts.{toZ-pos, toZ-ofZ, sfits-widen}
 use Rattle.whole.specs.TwosComplement.{signed}
-use Rattle.whole.proofs.Difference.{diff, d-eq}
-use Rattle.samples.proofs.number.Statement.{statement}
-use Rattle.samples.proofs.number.Tie as tie
+use Rattle.whole.proofs.TwosComplement.{negative}
+use Rattle.whole.proofs.signed.Statement.{statement}
+use Rattle.whole.proofs.signed.Tie as tie
 
 -- below 32768 the number stands as it is
 low : (v : ℕ) → v < 32768 → toZ w16 v ≡ signed v
@@ -22,11 +22,8 @@ module _ (v : ℕ) (h : 32768 ≤ v) (k : v < 65536) where
   read : toZ w32 v ≡ pos v
   read = toZ-pos w32 (omega arith)
 
-  negative : pos v -ℤ pos 65536 ≡ negsuc (65535 - v)
-  negative = d-eq (search diff) (omega arith)
-
   small : SFits w16 (pos v -ℤ pos 65536)
-  small = rw negative (record { sfits = omega arith })
+  small = rw (negative v h k) (record { sfits = omega arith })
 
   wide : SFits w32 (toZ w32 v -ℤ pos 65536)
   wide = rw read (sfits-widen tt small)
@@ -36,12 +33,6 @@ module _ (v : ℕ) (h : 32768 ≤ v) (k : v < 65536) where
 
   high : toZ w16 (ofZ w16 (toZ w32 (ofZ w32 (toZ w32 v -ℤ pos 65536)))) ≡ signed v
   high = rw (toZ-ofZ cut, toZ-ofZ wide, read, le-ltb v 32768 h)
-
-mul-u : tie.Need-mul-u
-mul-u c = search needs
-
-add-u : tie.Need-add-u
-add-u c = search needs
 
 cast-result : tie.Need-cast-result
 cast-result c = search needs
@@ -61,7 +52,6 @@ returns c = low _ (c .if1 .taken)
 returns-2 : tie.Need-returns-2
 returns-2 c = high _ (c .if1 .left) (omega arith)
 
-pub number-spec : {M : Type 1} → statement M
-number-spec =
-    tie.close
-    (tie.spec mul-u add-u cast-result cast-result-2 sub-result cast-result-3 returns returns-2)
+pub signed-spec : {M : Type 1} → statement M
+signed-spec =
+    tie.close (tie.spec cast-result cast-result-2 sub-result cast-result-3 returns returns-2)

@@ -1,10 +1,10 @@
--- `settings::signed` meets its contract: a first fault stays, else the test decides. Assumes nothing.
+-- `settings::signed_rule` meets its contract: a first fault stays, else the test decides. Assumes nothing.
 use borrow.Author.Needs.{needs}
 use mir.Facts.{toZ-ofZ}
 use Rattle.whole.proofs.Machine.{back}
 use Rattle.settings.specs.Check.{after}
-use Rattle.settings.proofs.signed.Statement.{statement}
-use Rattle.settings.proofs.signed.Tie as tie
+use Rattle.settings.proofs.signed_rule.Statement.{statement}
+use Rattle.settings.proofs.signed_rule.Tie as tie
 
 returns : tie.Need-returns
 unfolding after
@@ -18,8 +18,8 @@ returns-2 c =
     let h = simp (toZ-ofZ (a .fits .low), toZ-ofZ (a .fits .high), back (v .result) (v .ok)) at (c .before .between-signed .ensures) in
     rw (c .before .before .before .enum-told .given .1) cc
 
-pub signed-spec : {M : Type 1} → statement M
-signed-spec =
+pub signed-rule-spec : {M : Type 1} → statement M
+signed-rule-spec =
     tie.close
     (tie.spec
     (λ c. search needs) (λ c. search needs)

@@ -1,10 +1,10 @@
--- `gorsepetal::verdict` meets its contract: the length decides it, and then what the check found. Assumes nothing.
+-- `gorsepetal::propose_answer` meets its contract: the length decides it, and then what the check found. Assumes nothing.
 use mathlib.Core.Path.{sym, ap, _∙_}
 use borrow.Author.Needs.{needs}
 use borrow.Author.Tests.{eq-eqb, ne-eqb}
 use Rattle.gorsepetal.specs.Calls.{ofCheck}
-use Rattle.gorsepetal.proofs.verdict.Statement.{statement}
-use Rattle.gorsepetal.proofs.verdict.Tie as tie
+use Rattle.gorsepetal.proofs.propose_answer.Statement.{statement}
+use Rattle.gorsepetal.proofs.propose_answer.Tie as tie
 
 returns : tie.Need-returns
 returns c = rw (ne-eqb _ 32 (c .if1 .taken))
@@ -26,6 +26,6 @@ returns-3 : tie.Need-returns-3
 returns-3 c =
     let k = c .before .before .before in rw (eq-eqb _ 32 (k .before .if1 .left)) (ap ofCheck (sym (c .before .at .given .1) ∙ k .check .ensures))
 
-pub verdict-spec : {M : Type 1} → statement M
-verdict-spec =
+pub propose-answer-spec : {M : Type 1} → statement M
+propose-answer-spec =
     tie.close (tie.spec returns check-requires enum-told enum-known-at returns-2 returns-3)

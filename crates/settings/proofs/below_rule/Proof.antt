@@ -1,9 +1,9 @@
--- `settings::below` meets its contract: a first fault stays, else the test decides. Assumes nothing.
+-- `settings::below_rule` meets its contract: a first fault stays, else the test decides. Assumes nothing.
 use borrow.Author.Needs.{needs}
 use Rattle.whole.proofs.Machine.{back}
 use Rattle.settings.specs.Check.{after}
-use Rattle.settings.proofs.below.Statement.{statement}
-use Rattle.settings.proofs.below.Tie as tie
+use Rattle.settings.proofs.below_rule.Statement.{statement}
+use Rattle.settings.proofs.below_rule.Tie as tie
 
 returns : tie.Need-returns
 unfolding after
@@ -17,8 +17,8 @@ returns-2 c =
     let h = simp (back (x .result) (x .ok), back (y .result) (y .ok)) at (c .judged .ensures) in
     rw (c .before .before .before .enum-told .given .1) (rw (x .ensures, y .ensures) at h)
 
-pub below-spec : {M : Type 1} → statement M
-below-spec =
+pub below-rule-spec : {M : Type 1} → statement M
+below-rule-spec =
     tie.close
     (tie.spec
     (λ c. search needs) (λ c. search needs)
