@@ -1,17 +1,15 @@
-/* What the four calls cost in the library and in plain C: compares their answers, then counts instructions and measures the stack. */
+/* What the four calls cost in the library and in plain C: compares their answers, then counts instructions and measures stack and time. */
 #include <stdio.h>
+#include <stdlib.h>
+#include <string.h>
 
+#include "clock.h"
 #include "count.h"
 #include "same.h"
 #include "stack.h"
 #include "windows.h"
 
-/* Of the C library, beyond what tests/include declares. */
-extern FILE *stderr;
-extern int fprintf(FILE *file, const char *format, ...);
-extern long atol(const char *text);
-
-enum { RETURN_ADDRESS = 8, DEFAULT_WINDOWS = 10000 };
+enum { RETURN_ADDRESS = 8, DEFAULT_WINDOWS = 10000, WINDOWS_TO_COMPARE = 1000 };
 
 /* The call to be made next; it is made on a copy of the slices, so that it can be made again. */
 static const four_calls *version;
@@ -23,6 +21,9 @@ static void make_it(void) {
   make(version, call, &copy);
 }
 
+/* The same with no copy: decide can be made again as it is. */
+static void decide_again(void) { make(version, DECIDE, &slices); }
+
 static steps counted(int v, which_call which) {
   version = versions[v].calls;
   call = which;
@@ -31,32 +32,47 @@ static steps counted(int v, which_call which) {
 
 static long all(steps s) { return s.own + s.outside; }
 
-static void print_count(steps s) { printf("%8ld (%3ld)", all(s), s.outside); }
+static void print_count(steps s) { printf("%9ld +%3ld", s.own, s.outside); }
 
-static void print_ratio(steps mine, steps theirs) {
-  long hundredths = (100 * all(mine) + all(theirs) / 2) / all(theirs);
+/* The archive's part of another number, rounded up to hundredths: it is never said to be smaller than it is. */
+static void print_ratio(long mine, long theirs) {
+  long hundredths = (100 * mine + theirs - 1) / theirs;
   printf("%11ld.%02ld", hundredths / 100, hundredths % 100);
 }
 
-/* The archive, plain -O3 and their ratio, for the call that is lent. */
+/* The archive, plain -O3 and their ratios, inside and all, for the call that is lent. */
 static void print_beside_plain(which_call which) {
   steps mine = counted(ARCHIVE, which), theirs = counted(PLAIN_O3, which);
   print_count(mine);
   print_count(theirs);
-  print_ratio(mine, theirs);
+  print_ratio(mine.own, theirs.own);
+  print_ratio(all(mine), all(theirs));
   printf("\n");
+}
+
+/* Decide, for each number of ends and each window that a line sees. */
+static void for_each_window(void (*what)(const char *name, int ends)) {
+  for (int ends = FEWEST_ENDS; ends <= MOST_ENDS; ends++) {
+    lend_quiet(&slices, ends);
+    what("quiet", ends);
+    lend_fault(&slices, ends);
+    what("fault", ends);
+    lend_dead(&slices, ends);
+    what("dead", ends);
+  }
 }
 
 /* Answers first */
 
+static void same_window(const char *name, int ends) {
+  (void)name;
+  (void)ends;
+  same(DECIDE, &slices);
+}
+
 static void compare(long windows) {
   same_refusals();
-  for (int ends = FEWEST_ENDS; ends <= MOST_ENDS; ends++) {
-    lend_quiet(&slices, ends);
-    same(DECIDE, &slices);
-    lend_fault(&slices, ends);
-    same(DECIDE, &slices);
-  }
+  for_each_window(same_window);
   for (long n = 0; n < windows; n++)
     for (which_call which = PROPOSE; which < CALLS; which++) {
       lend_nth(&slices, which, n);
@@ -75,30 +91,28 @@ static void decide_line(const char *name, int ends) {
   make(versions[ARCHIVE].calls, DECIDE, &decided);
   printf("%4d  %-6s %5d", ends, name, decided.out[0]);
   for (int v = 0; v < VERSIONS; v++) print_count(s[v] = counted(v, DECIDE));
-  print_ratio(s[ARCHIVE], s[PLAIN_O3]);
-  print_ratio(s[ARCHIVE], s[DOUBLE_O3]);
+  print_ratio(s[ARCHIVE].own, s[PLAIN_O3].own);
+  print_ratio(s[ARCHIVE].own, s[DOUBLE_O3].own);
+  print_ratio(all(s[ARCHIVE]), all(s[PLAIN_O3]));
   printf("\n");
 }
 
 static void decide_table(void) {
-  printf("\nDecide, instructions of one call; in brackets those of them that are in the C library's memcpy and memset.\n");
-  printf("quiet: a balanced load through the line. fault: phase a to ground on the line, fed from all ends.\n");
+  printf("\nDecide, instructions of one call: those inside the archive or inside plain C, and after the + those that memcpy and memset\n");
+  printf("of the C library add, for which it has other code on another processor.\n");
+  printf("quiet: a balanced load through the line. fault: phase a to ground on the line, fed from all ends. dead: every sample is 0,\n");
+  printf("so that plain C's root in whole numbers, which begins at the highest bit there is, takes no step.\n");
   printf("plain: the same rules in plain C with a root in whole numbers. double: with the processor's root of a double.\n");
-  printf("The last two columns are the archive's count divided by that of plain -O3 and by that of double -O3.\n\n");
+  printf("Then the archive's count divided by that of plain -O3 and of double -O3, rounded up; in the last column with what is added.\n\n");
   printf("ends  window  trip");
   for (int v = 0; v < VERSIONS; v++) printf("%14s", versions[v].name);
-  printf("   / plain -O3  / double -O3\n");
-  for (int ends = FEWEST_ENDS; ends <= MOST_ENDS; ends++) {
-    lend_quiet(&slices, ends);
-    decide_line("quiet", ends);
-    lend_fault(&slices, ends);
-    decide_line("fault", ends);
-  }
+  printf("   / plain -O3  / double -O3       all / O3\n");
+  for_each_window(decide_line);
 }
 
 static void refused_table(void) {
   printf("\nDecide, instructions of a call that is refused because the last sample of the window is missing\n\n");
-  printf("ends       archive     plain -O3   / plain -O3\n");
+  printf("ends       archive     plain -O3   / plain -O3       all / O3\n");
   for (int ends = FEWEST_ENDS; ends <= MOST_ENDS; ends++) {
     lend_quiet(&slices, ends);
     miss(&slices, last_sample(&slices));
@@ -109,7 +123,7 @@ static void refused_table(void) {
 
 static void entry_table(void) {
   printf("\nThe other calls, instructions of one that is accepted\n\n");
-  printf("call            archive     plain -O3   / plain -O3\n");
+  printf("call            archive     plain -O3   / plain -O3       all / O3\n");
   for (which_call which = PROPOSE; which < DECIDE; which++) {
     lend_nth(&slices, which, 0);
     printf("%-9s", call_names[which]);
@@ -145,10 +159,37 @@ static void extent_table(long windows) {
     printf("\n");
     if (all(of[ends].most) > all(of[at].most)) at = ends;
   }
-  printf("\nThe most: %ld, with %d ends. It is bounded: a loop turns once for each end, phase, frame or sample, for each of the\n",
+  printf("\nThe most: %ld, with %d ends. It is bounded: nothing calls itself, and a loop turns once for each end, phase, frame, sample\n",
          all(of[at].most), at);
-  printf("21 rules of the settings, for each of the 32 bytes of a record, or by one of a few widths of the root. The value of a\n");
-  printf("sample chooses among those widths and no more; a missing one ends the search earlier or adds one bounded search.\n");
+  printf("or byte of a record, or once for each bit of one of six widths of the root. How often a loop turns hangs on the value of a\n");
+  printf("sample only through that width; besides, it decides some short branches: the pickups and the sign of m. A missing sample adds\n");
+  printf("a search over the samples, after which the call ends.\n");
+}
+
+/* Time */
+
+enum { ROUNDS = 400 };
+
+/* The shortest of many rounds, the versions by turns, so that what else the machine does meets them alike. */
+static void time_line(const char *name, int ends) {
+  static const int timed[] = {ARCHIVE, PLAIN_O3, DOUBLE_O3};
+  long shortest[VERSIONS];
+  for (int round = 0; round < ROUNDS; round++)
+    for (size_t k = 0; k < sizeof timed / sizeof *timed; k++) {
+      version = versions[timed[k]].calls;
+      long time = nanoseconds(decide_again);
+      if (round == 0 || time < shortest[timed[k]]) shortest[timed[k]] = time;
+    }
+  printf("%4d  %-6s%8ld%11ld%12ld", ends, name, shortest[ARCHIVE], shortest[PLAIN_O3], shortest[DOUBLE_O3]);
+  print_ratio(shortest[ARCHIVE], shortest[PLAIN_O3]);
+  print_ratio(shortest[ARCHIVE], shortest[DOUBLE_O3]);
+  printf("\n");
+}
+
+static void time_table(void) {
+  printf("\nDecide, nanoseconds of one call on this machine, in this run: the shortest of %d rounds\n\n", ROUNDS);
+  printf("ends  window archive  plain -O3  double -O3   / plain -O3  / double -O3\n");
+  for_each_window(time_line);
 }
 
 /* Stack */
@@ -175,17 +216,20 @@ static void stack_table(long windows) {
     printf("%-9s%10ld%11ld\n", call_names[which], stack_bytes(ARCHIVE, which, windows), stack_bytes(PLAIN_O3, which, windows));
 }
 
-/* The number of windows may be given. */
+/* The number of windows may be given; or `same`, to compare the answers and no more. */
 int main(int arguments, char **words) {
-  long windows = arguments > 1 ? atol(words[1]) : DEFAULT_WINDOWS;
+  int same_only = arguments > 1 && strcmp(words[1], "same") == 0;
+  long windows = same_only ? WINDOWS_TO_COMPARE : arguments > 1 ? atol(words[1]) : DEFAULT_WINDOWS;
   if (windows < 1) {
-    printf("a number of windows is wanted, 1 or more\n");
+    printf("a number of windows is wanted, 1 or more, or the word same\n");
     return 2;
   }
   compare(windows);
+  if (same_only) return 0;
   decide_table();
   refused_table();
   entry_table();
+  time_table();
   stack_table(windows);
   fflush(stdout);
   extent_table(windows);

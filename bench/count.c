@@ -4,6 +4,7 @@
 ** Linux on x86-64, or an emulator of it that knows the flag, as qemu does. Nothing is timed.
 */
 #include <stdio.h>
+#include <stdlib.h>
 
 #include "count.h"
 #include "stack.h"
@@ -17,11 +18,10 @@ typedef struct {
 } action;
 enum { SIGTRAP = 5, SA_SIGINFO = 4, REGISTERS = 40, RSP = 15, RIP = 16 };
 extern int sigaction(int signal, const action *taken, action *before);
-extern void exit(int status);
 
 extern const uint8_t __executable_start[], etext[]; /* the linker's: this program's code lies between them */
 
-static const uint8_t *first_instruction;
+static uintptr_t first_instruction;
 static volatile int entered, returned;
 static volatile steps so_far;
 
@@ -31,7 +31,7 @@ static void before_instruction(int signal, void *information, void *context) {
   const uint8_t *stack = (const uint8_t *)registers[RSP], *next = (const uint8_t *)registers[RIP];
   (void)signal;
   (void)information;
-  if (!entered && next == first_instruction) {
+  if (!entered && (uintptr_t)next == first_instruction) {
     entered = 1;
     so_far.stack = stack;
   }
@@ -53,7 +53,7 @@ static void clear_trap_flag(void) {
   __asm__ volatile("lea -128(%%rsp), %%rsp\n\tpushfq\n\tandq $~0x100, (%%rsp)\n\tpopfq\n\tlea 128(%%rsp), %%rsp" ::: "memory", "cc");
 }
 
-steps count(void (*call)(void), const void *function) {
+steps count(void (*call)(void), uintptr_t function) {
   action handling = {before_instruction, {0}, SA_SIGINFO, 0};
   first_instruction = function;
   entered = returned = 0;

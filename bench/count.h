@@ -11,8 +11,8 @@ typedef struct {
   const uint8_t *stack;
 } steps;
 
-/* `call` makes one call of `function`; what comes back is what was executed from the function's first instruction to its return. Ends the
+/* `call` makes one call of the function whose code begins at `function`; what comes back is what was executed from the function's first instruction to its return. Ends the
 ** program with a message if that cannot be counted. */
-steps count(void (*call)(void), const void *function);
+steps count(void (*call)(void), uintptr_t function);
 
 #endif

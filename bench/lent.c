@@ -20,10 +20,10 @@ uint64_t make(const four_calls *version, which_call call, lent *l) {
   return version->decide(l->state, l->state_len, l->in, l->in_len, l->out, l->out_len);
 }
 
-const void *code_of(const four_calls *version, which_call call) {
-  if (call == PROPOSE) return (const void *)version->propose;
-  if (call == CONFIRM) return (const void *)version->confirm;
-  return call == READ_BACK ? (const void *)version->read_back : (const void *)version->decide;
+uintptr_t code_of(const four_calls *version, which_call call) {
+  if (call == PROPOSE) return (uintptr_t)version->propose;
+  if (call == CONFIRM) return (uintptr_t)version->confirm;
+  return call == READ_BACK ? (uintptr_t)version->read_back : (uintptr_t)version->decide;
 }
 
 void put(uint8_t *bytes, int at, int number) {

@@ -33,7 +33,7 @@ typedef struct {
 uint64_t make(const four_calls *version, which_call call, lent *slices);
 
 /* Where the code of this version's call begins. */
-const void *code_of(const four_calls *version, which_call call);
+uintptr_t code_of(const four_calls *version, which_call call);
 
 /* Writes a 16-bit field or sample, upper byte first. */
 void put(uint8_t *bytes, int at, int number);

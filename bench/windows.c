@@ -86,11 +86,15 @@ static void balanced(lent *to, int channel, int re, int im) {
   wave(to, channel + 2, (-8192 * re - 14189 * im) / SCALE, (14189 * re - 8192 * im) / SCALE);
 }
 
-/* 10000 counts of voltage and 2000 of current, peak; the current lags by a sixteenth of a cycle. */
-void lend_quiet(lent *to, int ends) {
+void lend_dead(lent *to, int ends) {
   lend_fresh(to);
   good_record(to->state, ends);
   lend_window(to);
+}
+
+/* 10000 counts of voltage and 2000 of current, peak; the current lags by a sixteenth of a cycle. */
+void lend_quiet(lent *to, int ends) {
+  lend_dead(to, ends);
   balanced(to, 0, 10000, 0);
   balanced(to, current(1, 0), 1848, -765);
   for (int end = 2; end <= ends; end++) balanced(to, current(end, 0), -1848 / (ends - 1), 765 / (ends - 1));
@@ -103,7 +107,7 @@ void lend_fault(lent *to, int ends) {
   for (int end = 1; end <= ends; end++) wave(to, current(end, 0), 0, -20000);
 }
 
-/* Every channel alike, or one sample of 1 and nothing else. The square waves have the largest phasors there are. */
+/* Every channel alike, or one sample of 1 and nothing else. The square waves have the largest components there are. */
 enum { COSINE_SQUARE, SINE_SQUARE, A_SINGLE_ONE, ALTERNATING, HIGHEST, LOWEST, ZEROS, EXTREMES };
 
 static int extreme_sample(int kind, int frame, int channel) {

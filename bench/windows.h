@@ -1,4 +1,4 @@
-/* The calls that are compared and counted, ready to be made: two windows that a line sees, and a sequence of calls of all kinds. */
+/* The calls that are compared and counted, ready to be made: three windows that a line sees, and a sequence of calls of all kinds. */
 #ifndef WINDOWS_H
 #define WINDOWS_H
 #include "lent.h"
@@ -10,9 +10,10 @@ void lend_fresh(lent *to);
 void good_record(uint8_t *record, int ends);
 
 /* Decide, by that record. Quiet: a balanced load flows in at end 1 and out at the others, and nothing trips. Fault: phase a has a fault to
-** ground on the line, with large currents into it from all ends, and the relay trips. */
+** ground on the line, with large currents into it from all ends, and the relay trips. Dead: every sample is 0. */
 void lend_quiet(lent *to, int ends);
 void lend_fault(lent *to, int ends);
+void lend_dead(lent *to, int ends);
 
 /* Of a window that is lent: the ends by the record in force, the index of the last sample, and how a sample is marked as missing. */
 int ends_of(const lent *window);

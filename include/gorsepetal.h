@@ -12,6 +12,9 @@
 ** threads may call at once, each on a relay's state and on buffers of its own. The archive is for x86-64, System V calling
 ** convention. What is proved of its source, and what is only tested of the archive, stands in docs/CLAIMS.md.
 **
+** A call takes less than 2 KiB of stack, and a number of instructions that hangs on the ends of the line and on nothing that could
+** grow: docs/BENCHMARKS.md has the figures, which are measured and not proved.
+**
 ** LENT SLICES
 **
 ** Each slice is a pointer and a length in bytes, which have to be true; no call can check them. Every length has a defined
@@ -114,7 +117,7 @@
 **
 ** OUTSIDE THE LIBRARY
 **
-** Transformer differential, travelling waves, alignment of clocks, polarising memory and breaker-failure timing.
+** Transformer differential, travelling waves, alignment of clocks and polarising memory.
 **
 ** LIMITS
 **

@@ -8,6 +8,7 @@
   name is declared in that file; the commands and the output that README.md shows are there.
 - docs/CLAIMS.md: the table of wrong relays names each must-fail edit, and nothing else; the counts of assumed C functions are those that
   the checks of the crates gave, which must all have been proved here.
+- docs/ARCHITECTURE.md: its table has the lines of each crate, and no crate takes more lines of proof than it allows.
 """
 import sys
 
@@ -15,6 +16,7 @@ sys.dont_write_bytecode = True
 import axioms  # noqa: E402
 import documents  # noqa: E402
 import header  # noqa: E402
+import lines  # noqa: E402
 from tree import faults  # noqa: E402
 
 
@@ -29,6 +31,7 @@ def main():
         'must-fail edits': documents.check_edits(),
         'commands': documents.check_commands(),
         "crates' axioms": axioms.check_axioms(),
+        "crates' lines": lines.check_lines(),
     }
     faults.extend(f'no {kind} found to check' for kind, count in counts.items() if not count)
     if faults:

@@ -5,7 +5,9 @@
 typedef struct _IO_FILE FILE;
 extern FILE *stdin;
 extern FILE *stdout;
+extern FILE *stderr;
 int printf(const char *format, ...);
+int fprintf(FILE *file, const char *format, ...);
 size_t fread(void *to, size_t size, size_t count, FILE *file);
 size_t fwrite(const void *from, size_t size, size_t count, FILE *file);
 int fflush(FILE *file);
