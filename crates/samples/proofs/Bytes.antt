@@ -1,4 +1,4 @@
--- The numbers of bytes: how many they are, when they are as many as a window has, each of them, and a list that is filled with them.
+-- The numbers of bytes: how many they are, when they are as many as a window has, each of them, and a list filled with them as the code does.
 use Prim.Native.Nat.{ℕ, zero, suc, _+_, _*_, _/_, _<_, _≤_}
 use mathlib.Core.Path.{_≡_, refl, sym, ap₂, _∙_}
 use mathlib.Core.List.{List, [], _∷_}
