@@ -8,7 +8,7 @@
   name is declared in that file; the commands and the output that README.md shows are there.
 - docs/CLAIMS.md: the table of wrong relays names each must-fail edit, and nothing else; the counts of assumed C functions are those that
   the checks of the crates gave, which must all have been proved here.
-- docs/ARCHITECTURE.md: its table has the lines of each crate, and no crate takes more lines of proof than it allows.
+- No crate, and not all of them together, takes more lines of proof for a line of code than docs/ARCHITECTURE.md allows.
 """
 import sys
 

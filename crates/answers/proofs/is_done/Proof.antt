@@ -1,15 +1,9 @@
--- `answers::is_done` meets its contract: the test is on the answer's number. Assumes nothing.
+-- `answers::is_done` meets its contract: the test is on the answer's number.
 use mathlib.Core.Path.{ap}
 use borrow.Author.Needs.{needs}
 use lib.Dec.{eqb}
 use Rattle.answers.proofs.is_done.Statement.{statement}
 use Rattle.answers.proofs.is_done.Tie as tie
 
-number-requires : tie.Need-number-requires
-number-requires c κs = search needs
-
-returns : tie.Need-returns
-returns c = ap (λ n. eqb n 0) (c .number .ensures .0)
-
 pub is-done-spec : {M : Type 1} → statement M
-is-done-spec = tie.close (tie.spec number-requires returns)
+is-done-spec = tie.close (tie.spec (λ c κs. search needs) (λ c. ap (λ n. eqb n 0) (c .number .ensures .0)))

@@ -1,43 +1,7 @@
--- `decision::bytes` meets its contract: each number is written over zeros at its offset. Assumes nothing.
+-- `decision::bytes` meets its contract: each number is written over zeros at its offset.
 use borrow.Author.Needs.{needs}
 use Rattle.decision.proofs.bytes.Statement.{statement}
 use Rattle.decision.proofs.bytes.Tie as tie
-
-trip-requires : tie.Need-trip-requires
-trip-requires c κs = search needs
-
-number-requires : tie.Need-number-requires
-number-requires c κs = search needs
-
-front-requires : tie.Need-front-requires
-front-requires c κs = search needs
-
-with-word-requires : tie.Need-with-word-requires
-with-word-requires c κs = search needs
-
-with-word-requires-2 : tie.Need-with-word-requires-2
-with-word-requires-2 c κs = search needs
-
-with-word-requires-3 : tie.Need-with-word-requires-3
-with-word-requires-3 c κs = search needs
-
-magnitude-requires : tie.Need-magnitude-requires
-magnitude-requires c κs = search needs
-
-with-word-requires-4 : tie.Need-with-word-requires-4
-with-word-requires-4 c κs = search needs
-
-magnitude-requires-2 : tie.Need-magnitude-requires-2
-magnitude-requires-2 c κs = search needs
-
-with-word-requires-5 : tie.Need-with-word-requires-5
-with-word-requires-5 c κs = search needs
-
-magnitude-requires-3 : tie.Need-magnitude-requires-3
-magnitude-requires-3 c κs = search needs
-
-with-word-requires-6 : tie.Need-with-word-requires-6
-with-word-requires-6 c κs = search needs
 
 returns : tie.Need-returns
 returns c =
@@ -70,16 +34,6 @@ pub bytes-spec : {M : Type 1} → statement M
 bytes-spec =
     tie.close
     (tie.spec
-    trip-requires
-    number-requires
-    front-requires
-    with-word-requires
-    with-word-requires-2
-    with-word-requires-3
-    magnitude-requires
-    with-word-requires-4
-    magnitude-requires-2
-    with-word-requires-5
-    magnitude-requires-3
-    with-word-requires-6
-    returns)
+    (λ c κs. search needs) (λ c κs. search needs) (λ c κs. search needs) (λ c κs. search needs)
+    (λ c κs. search needs) (λ c κs. search needs) (λ c κs. search needs) (λ c κs. search needs)
+    (λ c κs. search needs) (λ c κs. search needs) (λ c κs. search needs) (λ c κs. search needs) returns)

@@ -1,5 +1,5 @@
 -- `decision::found` meets its contract: the grid is filled from the window, so what is taken from it is what the definitions take from the
--- window. Assumes nothing.
+-- window.
 use mathlib.Core.Path.{ap, ap₂, _∙_}
 use mathlib.Core.List.{List}
 use Prim.Native.Nat.{ℕ, _<_}
@@ -20,32 +20,11 @@ use Rattle.decision.proofs.found.Tie as tie
 some : (c : tie.After-ends) → 0 < c .ends .result
 some c = omega (arith, c .ends .ensures, c .before .before .pre .0 .ends-range .least)
 
-ends-requires : tie.Need-ends-requires
-ends-requires c κs = search needs
-
-voltages-requires : tie.Need-voltages-requires
-voltages-requires c κs = search needs
-
-currents-requires : tie.Need-currents-requires
-currents-requires c κs = search needs
-
-local-requires : tie.Need-local-requires
-local-requires c κs = search needs
-
-of-line-requires : tie.Need-of-line-requires
-of-line-requires c κs = search needs
-
-bits-requires : tie.Need-bits-requires
-bits-requires c κs = search needs
-
 loops-requires : tie.Need-loops-requires
 loops-requires c κs =
     let l = c .before .before in
     let n = l .before .before .before in
     (n .before .before .pre .0, l .before .before .voltages .ensures .1, rw (l .local .ensures) (filled-local (l .before .currents .ensures) (some n) .1))
-
-direction-requires : tie.Need-direction-requires
-direction-requires c κs = loops-requires (c .before) κs
 
 returns : tie.Need-returns
 unfolding findings
@@ -72,12 +51,5 @@ pub found-spec : {M : Type 1} → statement M
 found-spec =
     tie.close
     (tie.spec
-    ends-requires
-    voltages-requires
-    currents-requires
-    local-requires
-    of-line-requires
-    bits-requires
-    loops-requires
-    direction-requires
-    returns)
+    (λ c κs. search needs) (λ c κs. search needs) (λ c κs. search needs) (λ c κs. search needs)
+    (λ c κs. search needs) (λ c κs. search needs) loops-requires (λ c κs. loops-requires (c .before) κs) returns)

@@ -1,4 +1,4 @@
--- `decision::loops` meets its contract: the reach in force is in range. Assumes nothing.
+-- `decision::loops` meets its contract: the reach in force is in range.
 use mathlib.Core.Path.{ap₂, _∙_}
 use borrow.Author.Needs.{needs}
 use Rattle.whole.proofs.Machine.{back}
@@ -7,12 +7,6 @@ use Rattle.distance.specs.Mho.{loopBits}
 use Rattle.distance.proofs.Sizes.{reach-within}
 use Rattle.decision.proofs.loops.Statement.{statement}
 use Rattle.decision.proofs.loops.Tie as tie
-
-reach-requires : tie.Need-reach-requires
-reach-requires c κs = search needs
-
-loops-requires : tie.Need-loops-requires
-loops-requires c κs = search needs
 
 bits-at-requires : tie.Need-bits-at-requires
 bits-at-requires c κs =
@@ -27,4 +21,4 @@ returns c =
     (simp (back (k .reach .result) (k .reach .ok)) at (c .bits-at .ensures)) ∙ ap₂ (loopBits _) (k .reach .ensures) (l .loops .ensures .0)
 
 pub loops-spec : {M : Type 1} → statement M
-loops-spec = tie.close (tie.spec reach-requires loops-requires bits-at-requires returns)
+loops-spec = tie.close (tie.spec (λ c κs. search needs) (λ c κs. search needs) bits-at-requires returns)

@@ -1,5 +1,5 @@
 -- `differential::compared` meets its contract. The invariant: both sums over the ends passed; the differential is within 252000, which
--- bounds s. Assumes nothing.
+-- bounds s.
 use mathlib.Core.Path.{_≡_, refl, sym, ap, _∙_}
 use Prim.Native.Nat.{_-_, _*_, _≤_}
 use native.Mathlib.Omega.{arith}
@@ -27,18 +27,6 @@ loop-holds : tie.Need-loop-holds Inv-loop μ-loop
 unfolding total restraint sumOf
 loop-holds c = (refl, refl, search needs, search needs)
 
-mul-i : tie.Need-mul-i Inv-loop μ-loop
-mul-i c = search needs
-
-mul-i-2 : tie.Need-mul-i-2 Inv-loop μ-loop
-mul-i-2 c = search needs
-
-index-1-i : tie.Need-index-1-i Inv-loop μ-loop
-index-1-i c = search needs
-
-index-2-i : tie.Need-index-2-i Inv-loop μ-loop
-index-2-i c = search needs
-
 -- the sum so far
 small : (c : tie.At-loop Inv-loop μ-loop) → Inside 252000 (c .loop .sum)
 small c =
@@ -55,18 +43,6 @@ current c =
 plus-requires : tie.Need-plus-requires Inv-loop μ-loop
 plus-requires c κs = (inside-wider (small (c .before .before)) tt, inside-wider (current (c .before)) tt)
 
-end-restraint-requires : tie.Need-end-restraint-requires Inv-loop μ-loop
-end-restraint-requires c κs = current (c .before .before)
-
-add-restraint : tie.Need-add-restraint Inv-loop μ-loop
-add-restraint c = search needs
-
-add-e : tie.Need-add-e Inv-loop μ-loop
-add-e c = search needs
-
-loop-less : tie.Need-loop-less Inv-loop μ-loop
-loop-less c = search needs
-
 loop-again : tie.Need-loop-again Inv-loop μ-loop
 loop-again c =
     let l = c .before .before .before .before in
@@ -77,9 +53,6 @@ loop-again c =
       search needs,
       search needs,
     )
-
-squared-magnitude-requires : tie.Need-squared-magnitude-requires Inv-loop μ-loop
-squared-magnitude-requires c κs = inside-wider (small (c .before)) tt
 
 -- s, once every end has been passed
 square-is :
@@ -108,18 +81,6 @@ pub compared-spec : {M : Type 1} → statement M
 compared-spec =
     tie.close
     (tie.spec
-    Inv-loop
-    μ-loop
-    loop-holds
-    mul-i
-    mul-i-2
-    index-1-i
-    index-2-i
-    plus-requires
-    end-restraint-requires
-    add-restraint
-    add-e
-    loop-less
-    loop-again
-    squared-magnitude-requires
-    returns)
+    Inv-loop μ-loop loop-holds (λ c. search needs) (λ c. search needs) (λ c. search needs) (λ c. search needs)
+    plus-requires (λ c κs. current (c .before .before)) (λ c. search needs) (λ c. search needs) (λ c. search needs)
+    loop-again (λ c κs. inside-wider (small (c .before)) tt) returns)

@@ -1,4 +1,4 @@
--- `differential::end_restraint` meets its contract: 4096 times a squared magnitude fits. Assumes nothing.
+-- `differential::end_restraint` meets its contract: 4096 times a squared magnitude fits.
 use mathlib.Core.Path.{_≡_, ap, _∙_}
 use Prim.Native.Nat.{ℕ, _*_}
 use native.Mathlib.Omega.{arith}
@@ -14,17 +14,11 @@ root-is : (c : tie.After-root-up) → c .root-up .result ≡ endRestraint (c .be
 unfolding endRestraint
 root-is c = c .root-up .ensures ∙ ap (λ (n : ℕ). rootUp (4096 * n)) (c .before .squared-magnitude .ensures)
 
-squared-magnitude-requires : tie.Need-squared-magnitude-requires
-squared-magnitude-requires c κs = search needs
-
 mul-root-up : tie.Need-mul-root-up
 mul-root-up c = record { fits = omega (arith, c .squared-magnitude .ensures, squared-magnitude-most (c .before .pre)) }
-
-root-up-requires : tie.Need-root-up-requires
-root-up-requires c κs = search needs
 
 returns : tie.Need-returns
 returns c = (root-is c, rw (root-is c) (end-most (c .before .before .pre)))
 
 pub end-restraint-spec : {M : Type 1} → statement M
-end-restraint-spec = tie.close (tie.spec squared-magnitude-requires mul-root-up root-up-requires returns)
+end-restraint-spec = tie.close (tie.spec (λ c κs. search needs) mul-root-up (λ c κs. search needs) returns)

@@ -1,4 +1,4 @@
--- `differential::operates` meets its contract: the squares fit, and the tests are those of the definition. Assumes nothing.
+-- `differential::operates` meets its contract: the squares fit, and the tests are those of the definition.
 use Prim.Native.Nat.{_*_, _≤_}
 use native.Mathlib.Nat.{mul-le-mul}
 use native.Mathlib.Omega.{arith}
@@ -21,9 +21,6 @@ mul-if1 c = let h = c .before .pre .1 in record { fits = omega (arith, mul-le-mu
 mul-result : tie.Need-mul-result
 mul-result c = let h = restrained (c .before .before .before) in record { fits = omega (arith, mul-le-mul h h) }
 
-mul-result-2 : tie.Need-mul-result-2
-mul-result-2 c = search needs
-
 returns : tie.Need-returns
 unfolding operates
 returns c = rw (le-leb _ _ (c .before .if1 .taken))
@@ -33,4 +30,4 @@ unfolding operates
 returns-2 c = rw (lt-leb _ _ (c .if1 .left))
 
 pub operates-spec : {M : Type 1} → statement M
-operates-spec = tie.close (tie.spec mul-restrained mul-if1 mul-result mul-result-2 returns returns-2)
+operates-spec = tie.close (tie.spec mul-restrained mul-if1 mul-result (λ c. search needs) returns returns-2)

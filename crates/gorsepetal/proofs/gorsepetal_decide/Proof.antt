@@ -1,4 +1,4 @@
--- `gorsepetal::gorsepetal_decide` meets its contract: the numbers taken out of the bytes decide as the bytes do. Assumes nothing.
+-- `gorsepetal::gorsepetal_decide` meets its contract: the numbers taken out of the bytes decide as the bytes do.
 use mathlib.Core.Path.{ap, _∙_}
 use native.Mathlib.Nat.{sub-zero}
 use borrow.Author.Needs.{needs}
@@ -6,33 +6,6 @@ use lib.ListN.{take}
 use Rattle.gorsepetal.proofs.Numbers.{decide-bytes}
 use Rattle.gorsepetal.proofs.gorsepetal_decide.Statement.{statement}
 use Rattle.gorsepetal.proofs.gorsepetal_decide.Tie as tie
-
-count-requires : tie.Need-count-requires
-count-requires c κs = search needs
-
-slice-aggregate-numbers : tie.Need-slice-aggregate-numbers
-slice-aggregate-numbers c = search needs
-
-numbers-requires : tie.Need-numbers-requires
-numbers-requires c κs = search needs
-
-sub-decide : tie.Need-sub-decide
-sub-decide c = search needs
-
-part-decide-start : tie.Need-part-decide-start
-part-decide-start c = search needs
-
-part-decide-end : tie.Need-part-decide-end
-part-decide-end c = search needs
-
-decide-requires : tie.Need-decide-requires
-decide-requires c κs = search needs
-
-given-back-requires : tie.Need-given-back-requires
-given-back-requires c κs = search needs
-
-same-length : tie.Need-same-length
-same-length c = search needs
 
 returns : tie.Need-returns
 returns c =
@@ -46,13 +19,5 @@ pub gorsepetal-decide-spec : {M : Type 1} → statement M
 gorsepetal-decide-spec =
     tie.close
     (tie.spec
-    count-requires
-    slice-aggregate-numbers
-    numbers-requires
-    sub-decide
-    part-decide-start
-    part-decide-end
-    decide-requires
-    given-back-requires
-    same-length
-    returns)
+    (λ c κs. search needs) (λ c. search needs) (λ c κs. search needs) (λ c. search needs) (λ c. search needs)
+    (λ c. search needs) (λ c κs. search needs) (λ c κs. search needs) (λ c. search needs) returns)

@@ -1,16 +1,10 @@
--- `gorsepetal::present` meets its contract: the test on the answer picks the case. Assumes nothing.
+-- `gorsepetal::present` meets its contract: the test on the answer picks the case.
 use mathlib.Core.Path.{sym, ap, _∙_}
 use borrow.Author.Needs.{needs}
 use borrow.Author.Tests.{eq-eqb}
 use Rattle.answers.specs.Answers.{isDone}
 use Rattle.gorsepetal.proofs.present.Statement.{statement}
 use Rattle.gorsepetal.proofs.present.Tie as tie
-
-propose-answer-requires : tie.Need-propose-answer-requires
-propose-answer-requires c κs = search needs
-
-is-done-requires : tie.Need-is-done-requires
-is-done-requires c κs = search needs
 
 returns : tie.Need-returns
 returns c =
@@ -25,4 +19,4 @@ returns-2 c =
     rw (sym (ap isDone v) ∙ sym (c .before .is-done .ensures) ∙ c .if1 .left)
 
 pub present-spec : {M : Type 1} → statement M
-present-spec = tie.close (tie.spec propose-answer-requires is-done-requires returns returns-2)
+present-spec = tie.close (tie.spec (λ c κs. search needs) (λ c κs. search needs) returns returns-2)

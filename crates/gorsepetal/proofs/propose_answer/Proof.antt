@@ -1,22 +1,10 @@
--- `gorsepetal::propose_answer` meets its contract: the length decides it, and then what the check found. Assumes nothing.
+-- `gorsepetal::propose_answer` meets its contract: the length decides it, and then what the check found.
 use mathlib.Core.Path.{sym, ap, _∙_}
 use borrow.Author.Needs.{needs}
 use borrow.Author.Tests.{eq-eqb, ne-eqb}
 use Rattle.gorsepetal.specs.Calls.{ofCheck}
 use Rattle.gorsepetal.proofs.propose_answer.Statement.{statement}
 use Rattle.gorsepetal.proofs.propose_answer.Tie as tie
-
-returns : tie.Need-returns
-returns c = rw (ne-eqb _ 32 (c .if1 .taken))
-
-check-requires : tie.Need-check-requires
-check-requires c κs = search needs
-
-enum-told : tie.Need-enum-told
-enum-told c = search needs
-
-enum-known-at : tie.Need-enum-known-at
-enum-known-at c = search needs
 
 returns-2 : tie.Need-returns-2
 returns-2 c =
@@ -28,4 +16,7 @@ returns-3 c =
 
 pub propose-answer-spec : {M : Type 1} → statement M
 propose-answer-spec =
-    tie.close (tie.spec returns check-requires enum-told enum-known-at returns-2 returns-3)
+    tie.close
+    (tie.spec
+    (λ c. rw (ne-eqb _ 32 (c .if1 .taken))) (λ c κs. search needs) (λ c. search needs) (λ c. search needs) returns-2
+    returns-3)

@@ -1,4 +1,4 @@
--- `phasors::currents` meets its contract. The invariant: what stands before the end and the phase is measured. Assumes nothing.
+-- `phasors::currents` meets its contract. The invariant: what stands before the end and the phase is measured.
 use mathlib.Core.Path.{_≡_, refl}
 use mathlib.Core.List.{List}
 use Prim.Native.Nat.{ℕ, _-_, _≤_}
@@ -30,44 +30,8 @@ Inv-loop window ends channels grid₀ e₀ grid e = (e ≤ ends) × Upto (Measur
 abbrev μ-loop : tie.MeasureT-loop
 μ-loop window ends channels grid₀ e₀ grid e = ends - e
 
-channels-requires : tie.Need-channels-requires Inv-loop2 μ-loop2 Inv-loop μ-loop
-channels-requires c κs = search needs
-
 loop-holds : tie.Need-loop-holds Inv-loop2 μ-loop2 Inv-loop μ-loop
 loop-holds c = (search needs, upto-none _ _ _ _ refl refl refl)
-
-loop2-holds : tie.Need-loop2-holds Inv-loop2 μ-loop2 Inv-loop μ-loop
-loop2-holds c = (search needs, c .before .loop .inv .1)
-
-mul-measure : tie.Need-mul-measure Inv-loop2 μ-loop2 Inv-loop μ-loop
-mul-measure c = search needs
-
-add-measure : tie.Need-add-measure Inv-loop2 μ-loop2 Inv-loop μ-loop
-add-measure c = search needs
-
-add-measure-2 : tie.Need-add-measure-2 Inv-loop2 μ-loop2 Inv-loop μ-loop
-add-measure-2 c = search needs
-
-measure-requires : tie.Need-measure-requires Inv-loop2 μ-loop2 Inv-loop μ-loop
-measure-requires c κs = search needs
-
-mul-t15 : tie.Need-mul-t15 Inv-loop2 μ-loop2 Inv-loop μ-loop
-mul-t15 c = search needs
-
-mul-t18 : tie.Need-mul-t18 Inv-loop2 μ-loop2 Inv-loop μ-loop
-mul-t18 c = search needs
-
-index-1-grid : tie.Need-index-1-grid Inv-loop2 μ-loop2 Inv-loop μ-loop
-index-1-grid c = search needs
-
-index-2-grid : tie.Need-index-2-grid Inv-loop2 μ-loop2 Inv-loop μ-loop
-index-2-grid c = search needs
-
-add-p : tie.Need-add-p Inv-loop2 μ-loop2 Inv-loop μ-loop
-add-p c = search needs
-
-loop2-less : tie.Need-loop2-less Inv-loop2 μ-loop2 Inv-loop μ-loop
-loop2-less c = search needs
 
 loop2-again : tie.Need-loop2-again Inv-loop2 μ-loop2 Inv-loop μ-loop
 loop2-again c =
@@ -77,12 +41,6 @@ loop2-again c =
     let P = Measured (now (a .window)) (a .ends) in
     let here = rw (l .before .channels .ensures) at (c .measure .ensures) in
     (search needs, upto-put P (l .loop .e) (m .loop2 .grid) (m .loop2 .p) _ (m .loop2 .inv .1) (omega arith) (omega arith) here)
-
-add-e : tie.Need-add-e Inv-loop2 μ-loop2 Inv-loop μ-loop
-add-e c = search needs
-
-loop-less : tie.Need-loop-less Inv-loop2 μ-loop2 Inv-loop μ-loop
-loop-less c = search needs
 
 loop-again : tie.Need-loop-again Inv-loop2 μ-loop2 Inv-loop μ-loop
 loop-again c = (search needs, upto-end _ _ _ _ (c .loop2-test .left) (c .before .loop2 .inv .1))
@@ -98,25 +56,7 @@ pub currents-spec : {M : Type 1} → statement M
 currents-spec =
     tie.close
     (tie.spec
-    Inv-loop2
-    μ-loop2
-    Inv-loop
-    μ-loop
-    channels-requires
-    loop-holds
-    loop2-holds
-    mul-measure
-    add-measure
-    add-measure-2
-    measure-requires
-    mul-t15
-    mul-t18
-    index-1-grid
-    index-2-grid
-    add-p
-    loop2-less
-    loop2-again
-    add-e
-    loop-less
-    loop-again
-    returns)
+    Inv-loop2 μ-loop2 Inv-loop μ-loop (λ c κs. search needs) loop-holds
+    (λ c. (search needs, c .before .loop .inv .1)) (λ c. search needs) (λ c. search needs) (λ c. search needs)
+    (λ c κs. search needs) (λ c. search needs) (λ c. search needs) (λ c. search needs) (λ c. search needs)
+    (λ c. search needs) (λ c. search needs) loop2-again (λ c. search needs) (λ c. search needs) loop-again returns)

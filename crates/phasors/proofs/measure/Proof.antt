@@ -1,4 +1,4 @@
--- `phasors::measure` meets its contract: the lent table is the cosines, whose weights keep the phasor within 42000. Assumes nothing.
+-- `phasors::measure` meets its contract: the lent table is the cosines, whose weights keep the phasor within 42000.
 use borrow.Author.Needs.{needs}
 use denote.Ref.{now}
 use lib.Signed.{ltZ-yes}
@@ -9,12 +9,6 @@ use Rattle.phasors.specs.Sums.{sample}
 use Rattle.phasors.proofs.Weights.{Cycle, inside-cycle, rounded-cycle, sixteen-measures}
 use Rattle.phasors.proofs.measure.Statement.{statement}
 use Rattle.phasors.proofs.measure.Tie as tie
-
-cosines-requires : tie.Need-cosines-requires
-cosines-requires c κs = search needs
-
-slice-aggregate-sums : tie.Need-slice-aggregate-sums
-slice-aggregate-sums c = search needs
 
 sums-requires : tie.Need-sums-requires
 sums-requires c κs = rw (c .before .cosines .ensures) (search needs)
@@ -33,6 +27,4 @@ returns : tie.Need-returns
 returns c = rw (c .rounded .ensures) (rounded-cycle sixteen-measures (cycle (c .before)))
 
 pub measure-spec : {M : Type 1} → statement M
-measure-spec =
-    tie.close
-    (tie.spec cosines-requires slice-aggregate-sums sums-requires rounded-requires returns)
+measure-spec = tie.close (tie.spec (λ c κs. search needs) (λ c. search needs) sums-requires rounded-requires returns)

@@ -1,4 +1,4 @@
--- `phasors::sums` meets its contract. The invariant: the sums over the samples passed, none of which adds more than 2 ^ 30. Assumes nothing.
+-- `phasors::sums` meets its contract. The invariant: the sums over the samples passed, none of which adds more than 2 ^ 30.
 use mathlib.Core.Path.{_≡_, sym}
 use Prim.Native.Nat.{_-_, _*_, _^_, _≤_}
 use native.Mathlib.Nat.{mul-le-mul-right, suc-mul, mod-lt}
@@ -45,15 +45,6 @@ add-with-sample c = omega (arith, shared-slice-copy-out-with-sample c)
 mul-with-sample-2 : tie.Need-mul-with-sample-2 Inv-loop μ-loop
 mul-with-sample-2 c = omega (arith, shared-slice-copy-out-with-sample c)
 
-mul-with-sample-3 : tie.Need-mul-with-sample-3 Inv-loop μ-loop
-mul-with-sample-3 c = search needs
-
-shared-slice-copy-out-with-sample-2 : tie.Need-shared-slice-copy-out-with-sample-2 Inv-loop μ-loop
-shared-slice-copy-out-with-sample-2 c = search needs
-
-add-with-sample-2 : tie.Need-add-with-sample-2 Inv-loop μ-loop
-add-with-sample-2 c = search needs
-
 rem-with-sample : tie.Need-rem-with-sample Inv-loop μ-loop
 rem-with-sample c = search needs
 
@@ -69,12 +60,6 @@ with-sample-requires c κs =
     let l = c .before .before .before .before .loop in
     let few : 2 ^ 30 * l .n ≤ 2 ^ 62 = omega arith in
     inside-wider (l .inv .2) (le→leb _ _ few)
-
-add-n : tie.Need-add-n Inv-loop μ-loop
-add-n c = search needs
-
-loop-less : tie.Need-loop-less Inv-loop μ-loop
-loop-less c = search needs
 
 loop-again : tie.Need-loop-again Inv-loop μ-loop
 loop-again c =
@@ -103,21 +88,7 @@ pub sums-spec : {M : Type 1} → statement M
 sums-spec =
     tie.close
     (tie.spec
-    Inv-loop
-    μ-loop
-    loop-holds
-    mul-with-sample
-    add-with-sample
-    mul-with-sample-2
-    shared-slice-copy-out-with-sample
-    mul-with-sample-3
-    shared-slice-copy-out-with-sample-2
-    add-with-sample-2
-    rem-with-sample
-    mul-with-sample-4
-    shared-slice-copy-out-with-sample-3
-    with-sample-requires
-    add-n
-    loop-less
-    loop-again
+    Inv-loop μ-loop loop-holds mul-with-sample add-with-sample mul-with-sample-2 shared-slice-copy-out-with-sample
+    (λ c. search needs) (λ c. search needs) (λ c. search needs) rem-with-sample mul-with-sample-4
+    shared-slice-copy-out-with-sample-3 with-sample-requires (λ c. search needs) (λ c. search needs) loop-again
     returns)

@@ -1,19 +1,7 @@
--- `phasors::voltages` meets its contract: three channels, each measured. Assumes nothing.
+-- `phasors::voltages` meets its contract: three channels, each measured.
 use borrow.Author.Needs.{needs}
 use Rattle.phasors.proofs.voltages.Statement.{statement}
 use Rattle.phasors.proofs.voltages.Tie as tie
-
-channels-requires : tie.Need-channels-requires
-channels-requires c κs = search needs
-
-measure-requires : tie.Need-measure-requires
-measure-requires c κs = search needs
-
-measure-requires-2 : tie.Need-measure-requires-2
-measure-requires-2 c κs = search needs
-
-measure-requires-3 : tie.Need-measure-requires-3
-measure-requires-3 c κs = search needs
 
 returns : tie.Need-returns
 returns c =
@@ -28,4 +16,5 @@ returns c =
 pub voltages-spec : {M : Type 1} → statement M
 voltages-spec =
     tie.close
-    (tie.spec channels-requires measure-requires measure-requires-2 measure-requires-3 returns)
+    (tie.spec
+    (λ c κs. search needs) (λ c κs. search needs) (λ c κs. search needs) (λ c κs. search needs) returns)

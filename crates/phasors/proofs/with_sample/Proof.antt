@@ -1,4 +1,4 @@
--- `phasors::with_sample` meets its contract: the i16 are read as they stand, and products and sums fit. Assumes nothing.
+-- `phasors::with_sample` meets its contract: the i16 are read as they stand, and products and sums fit.
 use Prim.Native.Nat.{_^_}
 use mathlib.Core.Path.{_≡_, _∙_}
 use lib.IntN.{ℤ, _*ℤ_}
@@ -23,12 +23,6 @@ widened f = simp (toZ-ofZ f) (fit (fitted f) tt)
 widened-is : {z : ℤ} → SFits w16 z → toZ w64 (ofZ w64 (toZ w16 (ofZ w16 z))) ≡ z
 widened-is f = toZ-ofZ (widened f) ∙ toZ-ofZ f
 
-cast-re : tie.Need-cast-re
-cast-re c = widened (c .fits .x)
-
-cast-re-2 : tie.Need-cast-re-2
-cast-re-2 c = widened (c .fits .c)
-
 mul-re : tie.Need-mul-re
 mul-re c = let f = c .fits in simp (widened-is (f .x), widened-is (f .c)) (fit (product (f .x) (f .c)) tt)
 
@@ -37,12 +31,6 @@ add-re c =
     let s = c .before .before in
     let p = product (s .fits .x) (s .fits .c) in
     simp (widened-is (s .fits .x), widened-is (s .fits .c), rd (s .pre .real) tt, rd p tt) (fit (add (s .pre .real) p) tt)
-
-cast-im : tie.Need-cast-im
-cast-im c = widened (c .before .before .fits .x)
-
-cast-im-2 : tie.Need-cast-im-2
-cast-im-2 c = widened (c .before .before .fits .s)
 
 mul-im : tie.Need-mul-im
 mul-im c =
@@ -75,4 +63,7 @@ returns c =
 
 pub with-sample-spec : {M : Type 1} → statement M
 with-sample-spec =
-    tie.close (tie.spec cast-re cast-re-2 mul-re add-re cast-im cast-im-2 mul-im sub-im returns)
+    tie.close
+    (tie.spec
+    (λ c. widened (c .fits .x)) (λ c. widened (c .fits .c)) mul-re add-re (λ c. widened (c .before .before .fits .x))
+    (λ c. widened (c .before .before .fits .s)) mul-im sub-im returns)

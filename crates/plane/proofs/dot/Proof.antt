@@ -1,4 +1,4 @@
--- `plane::dot` meets its contract: a sum of two products. Assumes nothing.
+-- `plane::dot` meets its contract: a sum of two products.
 use Rattle.plane.specs.Plane.{dot}
 use Rattle.plane.proofs.Products.{first-fits, second-fits, sum-fits, sum-is}
 use Rattle.plane.proofs.dot.Statement.{statement}

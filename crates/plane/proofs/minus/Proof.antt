@@ -1,4 +1,4 @@
--- `plane::minus` meets its contract: each difference fits. Assumes nothing.
+-- `plane::minus` meets its contract: each difference fits.
 use Rattle.whole.proofs.Size.{sub, fit, rd}
 use Rattle.plane.specs.Plane.{minus}
 use Rattle.plane.proofs.minus.Statement.{statement}

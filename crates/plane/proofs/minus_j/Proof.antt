@@ -1,4 +1,4 @@
--- `plane::minus_j` meets its contract: the turned component fits. Assumes nothing.
+-- `plane::minus_j` meets its contract: the turned component fits.
 use lib.IntN.{negℤ, +ℤ-idl}
 use Rattle.whole.proofs.Size.{neg, fit, rd}
 use Rattle.plane.specs.Plane.{minusJ}

@@ -1,4 +1,4 @@
--- `plane::plus` meets its contract: each sum fits. Assumes nothing.
+-- `plane::plus` meets its contract: each sum fits.
 use Rattle.whole.proofs.Size.{add, fit, rd}
 use Rattle.plane.specs.Plane.{plus}
 use Rattle.plane.proofs.plus.Statement.{statement}

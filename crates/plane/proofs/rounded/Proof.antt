@@ -1,16 +1,10 @@
--- `plane::rounded` meets its contract: both components go through `whole::round_by`. Assumes nothing.
+-- `plane::rounded` meets its contract: both components go through `whole::round_by`.
 use borrow.Author.Needs.{needs}
 use Rattle.whole.proofs.Size.{rd}
 use Rattle.plane.specs.Plane.{rounded}
 use Rattle.plane.proofs.Made.{made}
 use Rattle.plane.proofs.rounded.Statement.{statement}
 use Rattle.plane.proofs.rounded.Tie as tie
-
-round-by-requires : tie.Need-round-by-requires
-round-by-requires c κs = search needs
-
-round-by-requires-2 : tie.Need-round-by-requires-2
-round-by-requires-2 c κs = search needs
 
 returns : tie.Need-returns
 unfolding rounded
@@ -22,4 +16,4 @@ returns c =
     made _ (first .ok) (c .round-by2 .ok) re im
 
 pub rounded-spec : {M : Type 1} → statement M
-rounded-spec = tie.close (tie.spec round-by-requires round-by-requires-2 returns)
+rounded-spec = tie.close (tie.spec (λ c κs. search needs) (λ c κs. search needs) returns)

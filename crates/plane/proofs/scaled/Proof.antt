@@ -1,4 +1,4 @@
--- `plane::scaled` meets its contract: each product fits. Assumes nothing.
+-- `plane::scaled` meets its contract: each product fits.
 use Rattle.whole.proofs.Size.{mul, fit, rd}
 use Rattle.plane.specs.Plane.{scaled}
 use Rattle.plane.proofs.scaled.Statement.{statement}

@@ -1,4 +1,4 @@
--- `plane::squared_magnitude` meets its contract: a square is not negative, so its bits are the number itself. Assumes nothing.
+-- `plane::squared_magnitude` meets its contract: a square is not negative, so its bits are the number itself.
 use mathlib.Core.Path.{ap}
 use native.Mathlib.Omega.{arith}
 use borrow.Author.Needs.{needs}
@@ -10,9 +10,6 @@ use Rattle.plane.proofs.Bounds.{within-dot}
 use Rattle.plane.proofs.Laws.{squared-nonneg}
 use Rattle.plane.proofs.squared_magnitude.Statement.{statement}
 use Rattle.plane.proofs.squared_magnitude.Tie as tie
-
-square-requires : tie.Need-square-requires
-square-requires c κs = search needs
 
 cast-result : tie.Need-cast-result
 cast-result c =
@@ -26,4 +23,4 @@ unfolding squaredMagnitude
 returns c = let s = c .square in simp (back (s .result) (s .ok)) (ap natAbs (s .ensures))
 
 pub squared-magnitude-spec : {M : Type 1} → statement M
-squared-magnitude-spec = tie.close (tie.spec square-requires cast-result returns)
+squared-magnitude-spec = tie.close (tie.spec (λ c κs. search needs) cast-result returns)

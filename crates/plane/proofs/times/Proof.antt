@@ -1,4 +1,4 @@
--- `plane::times` meets its contract: a difference and a sum of two products. Assumes nothing.
+-- `plane::times` meets its contract: a difference and a sum of two products.
 use Rattle.plane.specs.Plane.{times}
 use Rattle.plane.proofs.Products.{first-fits, second-fits, sum-fits, sum-is, difference-fits, difference-is}
 use Rattle.plane.proofs.times.Statement.{statement}

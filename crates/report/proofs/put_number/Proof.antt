@@ -1,19 +1,10 @@
--- `report::put_number` meets its contract: the digits that `io::decimal` makes are the number's decimal text. Assumes nothing.
+-- `report::put_number` meets its contract: the digits that `io::decimal` makes are the number's decimal text.
 use native.Mathlib.Omega.{arith}
 use denote.Ref.{now}
 use borrow.Author.Needs.{needs}
 use Rattle.report.proofs.Decimal.{few-digits, number-behind}
 use Rattle.report.proofs.put_number.Statement.{statement}
 use Rattle.report.proofs.put_number.Tie as tie
-
-decimal-requires : tie.Need-decimal-requires
-decimal-requires c κs = search needs
-
-array-share-prefix-digits : tie.Need-array-share-prefix-digits
-array-share-prefix-digits c = search needs
-
-slice-aggregate-put : tie.Need-slice-aggregate-put
-slice-aggregate-put c = search needs
 
 put-requires : tie.Need-put-requires
 put-requires c κs =
@@ -26,9 +17,6 @@ add-result c =
     let s = c .before .before .before .before .before .before .before .before in
     let d = c .before .before .before .before .before .decimal in
     omega (arith, few-digits (d .result) (s .args .n) (d .ensures .1 .0) (s .fits .n .fits))
-
-same-length : tie.Need-same-length
-same-length c = search needs
 
 returns : tie.Need-returns
 returns c =
@@ -43,10 +31,5 @@ pub put-number-spec : {M : Type 1} → statement M
 put-number-spec =
     tie.close
     (tie.spec
-    decimal-requires
-    array-share-prefix-digits
-    slice-aggregate-put
-    put-requires
-    add-result
-    same-length
+    (λ c κs. search needs) (λ c. search needs) (λ c. search needs) put-requires add-result (λ c. search needs)
     returns)

@@ -1,4 +1,4 @@
--- `samples::all_low_first` meets its contract. The invariant: the numbers so far are bytes, two by two. Assumes nothing.
+-- `samples::all_low_first` meets its contract. The invariant: the numbers so far are bytes, two by two.
 use Prim.Native.Nat.{_-_, _<_, _≤_}
 use mathlib.Core.Path.{_≡_}
 use native.Mathlib.Omega.{arith}
@@ -19,42 +19,6 @@ Inv-loop bytes samples₀ n i₀ samples i = (i ≤ n) × AllLowFirst bytes samp
 abbrev μ-loop : tie.MeasureT-loop
 μ-loop bytes samples₀ n i₀ samples i = n - i
 
-count-requires : tie.Need-count-requires Inv-loop μ-loop
-count-requires c κs = search needs
-
-loop-holds : tie.Need-loop-holds Inv-loop μ-loop
-loop-holds c = (search needs, below-none _, search needs)
-
-mul-low-first : tie.Need-mul-low-first Inv-loop μ-loop
-mul-low-first c = search needs
-
-shared-slice-read-low-first : tie.Need-shared-slice-read-low-first Inv-loop μ-loop
-shared-slice-read-low-first c = search needs
-
-mul-low-first-2 : tie.Need-mul-low-first-2 Inv-loop μ-loop
-mul-low-first-2 c = search needs
-
-add-low-first : tie.Need-add-low-first Inv-loop μ-loop
-add-low-first c = search needs
-
-shared-slice-read-low-first-2 : tie.Need-shared-slice-read-low-first-2 Inv-loop μ-loop
-shared-slice-read-low-first-2 c = search needs
-
-low-first-requires : tie.Need-low-first-requires Inv-loop μ-loop
-low-first-requires c κs = search needs
-
-mul-t14 : tie.Need-mul-t14 Inv-loop μ-loop
-mul-t14 c = search needs
-
-slice-set-from-samples : tie.Need-slice-set-from-samples Inv-loop μ-loop
-slice-set-from-samples c = search needs
-
-add-i : tie.Need-add-i Inv-loop μ-loop
-add-i c = search needs
-
-loop-less : tie.Need-loop-less Inv-loop μ-loop
-loop-less c = search needs
-
 loop-again : tie.Need-loop-again Inv-loop μ-loop
 loop-again c =
     let l = c .before .before .before .before in
@@ -66,9 +30,6 @@ loop-again c =
       search needs,
     )
 
-same-length : tie.Need-same-length Inv-loop μ-loop
-same-length c = c .before .loop .inv .2
-
 returns : tie.Need-returns Inv-loop μ-loop
 returns c =
     let l = c .before in
@@ -79,20 +40,7 @@ pub all-low-first-spec : {M : Type 1} → statement M
 all-low-first-spec =
     tie.close
     (tie.spec
-    Inv-loop
-    μ-loop
-    count-requires
-    loop-holds
-    mul-low-first
-    shared-slice-read-low-first
-    mul-low-first-2
-    add-low-first
-    shared-slice-read-low-first-2
-    low-first-requires
-    mul-t14
-    slice-set-from-samples
-    add-i
-    loop-less
-    loop-again
-    same-length
-    returns)
+    Inv-loop μ-loop (λ c κs. search needs) (λ c. (search needs, below-none _, search needs)) (λ c. search needs)
+    (λ c. search needs) (λ c. search needs) (λ c. search needs) (λ c. search needs) (λ c κs. search needs)
+    (λ c. search needs) (λ c. search needs) (λ c. search needs) (λ c. search needs) loop-again
+    (λ c. c .before .loop .inv .2) returns)

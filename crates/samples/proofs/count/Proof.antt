@@ -1,12 +1,9 @@
--- `samples::count` meets its contract: one law for each way out. Assumes nothing.
+-- `samples::count` meets its contract: one law for each way out.
 use native.Mathlib.Omega.{arith}
 use borrow.Author.Needs.{needs}
 use Rattle.samples.proofs.Bytes.{count-odd, count-long, count-all}
 use Rattle.samples.proofs.count.Statement.{statement}
 use Rattle.samples.proofs.count.Tie as tie
-
-mul-if1 : tie.Need-mul-if1
-mul-if1 c = search needs
 
 returns : tie.Need-returns
 returns c = (search (needs, count-odd), omega arith, omega arith)
@@ -18,4 +15,4 @@ returns-3 : tie.Need-returns-3
 returns-3 c = (search (needs, count-long), omega arith, omega arith)
 
 pub count-spec : {M : Type 1} → statement M
-count-spec = tie.close (tie.spec mul-if1 returns returns-2 returns-3)
+count-spec = tie.close (tie.spec (λ c. search needs) returns returns-2 returns-3)

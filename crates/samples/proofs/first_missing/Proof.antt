@@ -1,5 +1,5 @@
 -- `samples::first_missing` meets its contract. The invariant of both loops: every number passed is present; so the place at which the
--- search leaves is the first. Assumes nothing.
+-- search leaves is the first.
 use Prim.Native.Nat.{ℕ, _+_, _*_, _-_, _≤_, _<_}
 use mathlib.Core.Path.{_≡_, sym, ap, _∙_}
 use mathlib.Core.List.{List}
@@ -34,15 +34,9 @@ Inv-search window frames channels found₀ f₀ found f = (f ≤ frames) × (fou
 abbrev μ-search : tie.MeasureT-search
 μ-search window frames channels found₀ f₀ found f = frames - f
 
-all-present-requires : tie.Need-all-present-requires Inv-loop μ-loop Inv-search μ-search
-all-present-requires c κs = search needs
-
 returns : tie.Need-returns Inv-loop μ-loop Inv-search μ-search
 returns c =
     is-first (now (c .before .before .args .window)) Nothing (c .before .all-present .ensures (c .if1 .taken))
-
-search-holds : tie.Need-search-holds Inv-loop μ-loop Inv-search μ-search
-search-holds c = search needs
 
 loop-holds : tie.Need-loop-holds Inv-loop μ-loop Inv-search μ-search
 loop-holds c =
@@ -57,24 +51,6 @@ inside c =
     let s = c .before .before .before in
     omega (arith, s .before .before .before .pre, earlier (s .before .before .before .args .channels) (s .search .f) (c .before .loop .c) (s .before .before .before .args .frames) (omega arith) (omega arith))
 
-mul-at : tie.Need-mul-at Inv-loop μ-loop Inv-search μ-search
-mul-at c = omega (arith, inside c)
-
-add-at : tie.Need-add-at Inv-loop μ-loop Inv-search μ-search
-add-at c = omega (arith, inside c)
-
-mul-x : tie.Need-mul-x Inv-loop μ-loop Inv-search μ-search
-mul-x c = omega (arith, inside c)
-
-shared-slice-copy-out-x : tie.Need-shared-slice-copy-out-x Inv-loop μ-loop Inv-search μ-search
-shared-slice-copy-out-x c = omega (arith, inside c)
-
-add-c : tie.Need-add-c Inv-loop μ-loop Inv-search μ-search
-add-c c = search needs
-
-loop-less : tie.Need-loop-less Inv-loop μ-loop Inv-search μ-search
-loop-less c = search needs
-
 loop-again : tie.Need-loop-again Inv-loop μ-loop Inv-search μ-search
 loop-again c =
     let l = c .before .before .before in
@@ -84,12 +60,6 @@ loop-again c =
       l .loop .inv .1,
       present-at w (omega arith) (below-more (λ k. Missing w k → ⊥) (s .search .f * s .before .before .before .args .channels + l .loop .c) (l .loop .inv .2) (λ m. c .if2 .left (ap (ofZ w16) m))),
     )
-
-add-f : tie.Need-add-f Inv-loop μ-loop Inv-search μ-search
-add-f c = search needs
-
-search-less : tie.Need-search-less Inv-loop μ-loop Inv-search μ-search
-search-less c = search needs
 
 search-again : tie.Need-search-again Inv-loop μ-loop Inv-search μ-search
 search-again c =
@@ -115,23 +85,7 @@ pub first-missing-spec : {M : Type 1} → statement M
 first-missing-spec =
     tie.close
     (tie.spec
-    Inv-loop
-    μ-loop
-    Inv-search
-    μ-search
-    all-present-requires
-    returns
-    search-holds
-    loop-holds
-    mul-at
-    add-at
-    mul-x
-    shared-slice-copy-out-x
-    add-c
-    loop-less
-    loop-again
-    add-f
-    search-less
-    search-again
-    returns-2
-    returns-3)
+    Inv-loop μ-loop Inv-search μ-search (λ c κs. search needs) returns (λ c. search needs) loop-holds
+    (λ c. omega (arith, inside c)) (λ c. omega (arith, inside c)) (λ c. omega (arith, inside c))
+    (λ c. omega (arith, inside c)) (λ c. search needs) (λ c. search needs) loop-again (λ c. search needs)
+    (λ c. search needs) search-again returns-2 returns-3)

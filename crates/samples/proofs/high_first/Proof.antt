@@ -1,4 +1,4 @@
--- `samples::high_first` meets its contract: the bits, with the two bytes exchanged. Assumes nothing.
+-- `samples::high_first` meets its contract: the bits, with the two bytes exchanged.
 use mathlib.Core.Path.{_≡_, _∙_, ap}
 use mir.Syntax.{w16}
 use mir.Val.{toZ, ofZ}
@@ -9,18 +9,6 @@ use borrow.Author.Needs.{needs}
 use Rattle.samples.proofs.high_first.Statement.{statement}
 use Rattle.samples.proofs.high_first.Tie as tie
 
-unsigned-requires : tie.Need-unsigned-requires
-unsigned-requires c κs = search needs
-
-mul-signed : tie.Need-mul-signed
-mul-signed c = search needs
-
-add-signed : tie.Need-add-signed
-add-signed c = search needs
-
-signed-requires : tie.Need-signed-requires
-signed-requires c κs = search needs
-
 returns : tie.Need-returns
 returns c =
     let back : toZ w16 (ofZ w16 (c .signed .result)) ≡ c .signed .result = search needs in
@@ -28,4 +16,7 @@ returns c =
     back ∙ c .signed .ensures ∙ ap (λ (u : ℕ). signed (u % 256 * 256 + u / 256)) bits
 
 pub high-first-spec : {M : Type 1} → statement M
-high-first-spec = tie.close (tie.spec unsigned-requires mul-signed add-signed signed-requires returns)
+high-first-spec =
+    tie.close
+    (tie.spec
+    (λ c κs. search needs) (λ c. search needs) (λ c. search needs) (λ c κs. search needs) returns)

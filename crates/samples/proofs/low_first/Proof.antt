@@ -1,4 +1,4 @@
--- `samples::low_first` meets its contract: the same 16 bits come back of the signed number. Assumes nothing.
+-- `samples::low_first` meets its contract: the same 16 bits come back of the signed number.
 use Prim.Native.Nat.{_+_, _*_}
 use mathlib.Core.Path.{_≡_, ap, _∙_}
 use native.Mathlib.Omega.{arith}
@@ -10,15 +10,6 @@ use Rattle.whole.proofs.TwosComplement.{unsigned-signed}
 use Rattle.samples.proofs.low_first.Statement.{statement}
 use Rattle.samples.proofs.low_first.Tie as tie
 
-mul-signed : tie.Need-mul-signed
-mul-signed c = search needs
-
-add-signed : tie.Need-add-signed
-add-signed c = search needs
-
-signed-requires : tie.Need-signed-requires
-signed-requires c κs = search needs
-
 returns : tie.Need-returns
 returns c =
     let a = c .before .args in
@@ -27,4 +18,4 @@ returns c =
     rw (back, bits) (omega arith, omega arith)
 
 pub low-first-spec : {M : Type 1} → statement M
-low-first-spec = tie.close (tie.spec mul-signed add-signed signed-requires returns)
+low-first-spec = tie.close (tie.spec (λ c. search needs) (λ c. search needs) (λ c κs. search needs) returns)

@@ -1,5 +1,5 @@
 -- `samples::numbers` meets its contract. The invariant: before i stand the first of the bytes' numbers, and from i on the bytes as they
--- were read. Assumes nothing.
+-- were read.
 use Prim.Native.Nat.{ℕ, _-_, _≤_}
 use mathlib.Core.Path.{_≡_, _∙_}
 use mathlib.Core.List.{List}
@@ -22,37 +22,10 @@ Inv-loop bytes samples₀ n i₀ samples i =
 abbrev μ-loop : tie.MeasureT-loop
 μ-loop bytes samples₀ n i₀ samples i = n - i
 
-count-requires : tie.Need-count-requires Inv-loop μ-loop
-count-requires c κs = search needs
-
-all-low-first-requires : tie.Need-all-low-first-requires Inv-loop μ-loop
-all-low-first-requires c κs = search needs
-
 loop-holds : tie.Need-loop-holds Inv-loop μ-loop
 loop-holds c =
     let all = rw (← c .before .before .before .count .ensures .0) at (c .before .all-low-first .ensures) in
     (search needs, search needs, λ k l m. all k m, search needs)
-
-mul-x : tie.Need-mul-x Inv-loop μ-loop
-mul-x c = search needs
-
-slice-copy-out-x : tie.Need-slice-copy-out-x Inv-loop μ-loop
-slice-copy-out-x c = search needs
-
-high-first-requires : tie.Need-high-first-requires Inv-loop μ-loop
-high-first-requires c κs = search needs
-
-mul-t10 : tie.Need-mul-t10 Inv-loop μ-loop
-mul-t10 c = search needs
-
-slice-set-from-samples : tie.Need-slice-set-from-samples Inv-loop μ-loop
-slice-set-from-samples c = search needs
-
-add-i : tie.Need-add-i Inv-loop μ-loop
-add-i c = search needs
-
-loop-less : tie.Need-loop-less Inv-loop μ-loop
-loop-less c = search needs
 
 loop-again : tie.Need-loop-again Inv-loop μ-loop
 loop-again c =
@@ -71,9 +44,6 @@ loop-again c =
       search needs,
     )
 
-same-length : tie.Need-same-length Inv-loop μ-loop
-same-length c = search needs
-
 returns : tie.Need-returns Inv-loop μ-loop
 returns c =
     let l = c .before in
@@ -85,18 +55,6 @@ pub numbers-spec : {M : Type 1} → statement M
 numbers-spec =
     tie.close
     (tie.spec
-    Inv-loop
-    μ-loop
-    count-requires
-    all-low-first-requires
-    loop-holds
-    mul-x
-    slice-copy-out-x
-    high-first-requires
-    mul-t10
-    slice-set-from-samples
-    add-i
-    loop-less
-    loop-again
-    same-length
-    returns)
+    Inv-loop μ-loop (λ c κs. search needs) (λ c κs. search needs) loop-holds (λ c. search needs) (λ c. search needs)
+    (λ c κs. search needs) (λ c. search needs) (λ c. search needs) (λ c. search needs) (λ c. search needs) loop-again
+    (λ c. search needs) returns)

@@ -1,4 +1,4 @@
--- `session::read` meets its contract: what was read lies at the front of the room. Assumes nothing.
+-- `session::read` meets its contract: what was read lies at the front of the room.
 use Prim.Native.Nat.{ℕ, _≤_}
 use mathlib.Core.Path.{_≡_, sym}
 use mathlib.Core.List.{List, _++_}
@@ -19,16 +19,10 @@ counted n bytes part room b l h =
     let k : n ≤ length (part ++ drop bytes room) = omega (arith, h .0) in
     ((k, sym (length-take-le n (part ++ drop bytes room) k)), omega (arith, h .0))
 
-slice-relend-prefix-read-full : tie.Need-slice-relend-prefix-read-full
-slice-relend-prefix-read-full c = search needs
-
 slice-aggregate-read-full : tie.Need-slice-aggregate-read-full
 slice-aggregate-read-full c =
     let s = c .before .before in
     sym (length-take-le (s .args .bytes) (now (s .args .room)) (s .pre))
-
-read-full-requires : tie.Need-read-full-requires
-read-full-requires c κs = search needs
 
 same-length : tie.Need-same-length
 same-length c = search needs
@@ -42,8 +36,4 @@ pub read-spec : {M : Type 1} → statement M
 read-spec =
     tie.close
     (tie.spec
-    slice-relend-prefix-read-full
-    slice-aggregate-read-full
-    read-full-requires
-    same-length
-    returns)
+    (λ c. search needs) slice-aggregate-read-full (λ c κs. search needs) same-length returns)

@@ -1,4 +1,4 @@
--- `settings::below_rule` meets its contract: a first fault stays, else the test decides. Assumes nothing.
+-- `settings::below_rule` meets its contract: a first fault stays, else the test decides.
 use borrow.Author.Needs.{needs}
 use Rattle.whole.proofs.Machine.{back}
 use Rattle.settings.specs.Check.{after}
@@ -21,6 +21,5 @@ pub below-rule-spec : {M : Type 1} → statement M
 below-rule-spec =
     tie.close
     (tie.spec
-    (λ c. search needs) (λ c. search needs)
-    (λ c κs. search needs) (λ c κs. search needs) (λ c κs. search needs)
+    (λ c. search needs) (λ c. search needs) (λ c κs. search needs) (λ c κs. search needs) (λ c κs. search needs)
     returns returns-2)

@@ -1,5 +1,4 @@
 -- `settings::between_signed` meets its contract: a signed parameter is read back from its bits, and the test picks the case.
--- Assumes nothing.
 use mir.Facts.{toZ-ofZ}
 use Rattle.settings.proofs.between_signed.Statement.{statement}
 use Rattle.settings.proofs.between_signed.Tie as tie

@@ -1,4 +1,4 @@
--- `settings::signed_field` meets its contract: the field's 16 bits, read as a signed number. Assumes nothing.
+-- `settings::signed_field` meets its contract: the field's 16 bits, read as a signed number.
 use mathlib.Core.Path.{_≡_, ap, _∙_}
 use mir.Syntax.{w16, w64}
 use mir.Val.{SFits, toZ, ofZ}
@@ -7,15 +7,6 @@ use Rattle.whole.specs.TwosComplement.{signed}
 use borrow.Author.Needs.{needs}
 use Rattle.settings.proofs.signed_field.Statement.{statement}
 use Rattle.settings.proofs.signed_field.Tie as tie
-
-field-requires : tie.Need-field-requires
-field-requires c κs = search needs
-
-cast-signed : tie.Need-cast-signed
-cast-signed c = search needs
-
-signed-requires : tie.Need-signed-requires
-signed-requires c κs = search needs
 
 cast-result : tie.Need-cast-result
 cast-result c =
@@ -29,4 +20,6 @@ returns c =
 
 pub signed-field-spec : {M : Type 1} → statement M
 signed-field-spec =
-    tie.close (tie.spec field-requires cast-signed signed-requires cast-result returns)
+    tie.close
+    (tie.spec
+    (λ c κs. search needs) (λ c. search needs) (λ c κs. search needs) cast-result returns)

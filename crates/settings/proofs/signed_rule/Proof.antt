@@ -1,4 +1,4 @@
--- `settings::signed_rule` meets its contract: a first fault stays, else the test decides. Assumes nothing.
+-- `settings::signed_rule` meets its contract: a first fault stays, else the test decides.
 use borrow.Author.Needs.{needs}
 use mir.Facts.{toZ-ofZ}
 use Rattle.whole.proofs.Machine.{back}
@@ -22,6 +22,5 @@ pub signed-rule-spec : {M : Type 1} → statement M
 signed-rule-spec =
     tie.close
     (tie.spec
-    (λ c. search needs) (λ c. search needs)
-    (λ c κs. search needs) (λ c κs. search needs) (λ c κs. search needs)
+    (λ c. search needs) (λ c. search needs) (λ c κs. search needs) (λ c κs. search needs) (λ c κs. search needs)
     returns returns-2)

@@ -1,4 +1,4 @@
--- `settings::squares_rule` meets its contract: a first fault stays, else the test decides. Assumes nothing.
+-- `settings::squares_rule` meets its contract: a first fault stays, else the test decides.
 use borrow.Author.Needs.{needs}
 use Rattle.settings.specs.Check.{after}
 use Rattle.settings.proofs.squares_rule.Statement.{statement}
@@ -20,6 +20,5 @@ pub squares-rule-spec : {M : Type 1} → statement M
 squares-rule-spec =
     tie.close
     (tie.spec
-    (λ c. search needs) (λ c. search needs)
-    (λ c κs. search needs) (λ c κs. search needs) (λ c κs. search needs) (λ c κs. search needs) (λ c κs. search needs)
-    returns returns-2)
+    (λ c. search needs) (λ c. search needs) (λ c κs. search needs) (λ c κs. search needs) (λ c κs. search needs)
+    (λ c κs. search needs) (λ c κs. search needs) returns returns-2)

@@ -1,4 +1,4 @@
--- `settings::sum_of_squares` meets its contract: the square of a 16-bit number fits 32 bits. Assumes nothing.
+-- `settings::sum_of_squares` meets its contract: the square of a 16-bit number fits 32 bits.
 use Prim.Native.Nat.{ℕ, _*_, _<_, _≤_}
 use native.Mathlib.Nat.{mul-le-mul}
 use native.Mathlib.Omega.{arith}
@@ -9,17 +9,11 @@ use Rattle.settings.proofs.sum_of_squares.Tie as tie
 small : {x : ℕ} → x < 65536 → x * x ≤ 65536 * 65536
 small {x} h = mul-le-mul {n₁ = x} {m₁ = x} {n₂ = 65536} {m₂ = 65536} (omega arith) (omega arith)
 
-mul-result : tie.Need-mul-result
-mul-result c = omega (arith, small (c .pre .0))
-
-mul-result-2 : tie.Need-mul-result-2
-mul-result-2 c = omega (arith, small (c .pre .1))
-
 add-result : tie.Need-add-result
 add-result c = omega (arith, small (c .pre .0), small (c .pre .1))
 
-returns : tie.Need-returns
-returns c = search needs
-
 pub sum-of-squares-spec : {M : Type 1} → statement M
-sum-of-squares-spec = tie.close (tie.spec mul-result mul-result-2 add-result returns)
+sum-of-squares-spec =
+    tie.close
+    (tie.spec
+    (λ c. omega (arith, small (c .pre .0))) (λ c. omega (arith, small (c .pre .1))) add-result (λ c. search needs))

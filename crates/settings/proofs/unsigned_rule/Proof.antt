@@ -1,4 +1,4 @@
--- `settings::unsigned_rule` meets its contract: a first fault stays, else the test decides. Assumes nothing.
+-- `settings::unsigned_rule` meets its contract: a first fault stays, else the test decides.
 use borrow.Author.Needs.{needs}
 use Rattle.settings.specs.Check.{after}
 use Rattle.settings.proofs.unsigned_rule.Statement.{statement}
@@ -16,6 +16,5 @@ pub unsigned-rule-spec : {M : Type 1} → statement M
 unsigned-rule-spec =
     tie.close
     (tie.spec
-    (λ c. search needs) (λ c. search needs)
-    (λ c κs. search needs) (λ c κs. search needs) (λ c κs. search needs)
+    (λ c. search needs) (λ c. search needs) (λ c κs. search needs) (λ c κs. search needs) (λ c κs. search needs)
     returns returns-2)

@@ -4,20 +4,12 @@ use borrow.Author.Needs.{needs}
 use Rattle.whole.proofs.bit_before.Statement.{statement}
 use Rattle.whole.proofs.bit_before.Tie as tie
 
-mul-result : tie.Need-mul-result
-mul-result c = search needs
-
-add-result : tie.Need-add-result
-add-result c = search needs
-
-mul-result-2 : tie.Need-mul-result-2
-mul-result-2 c = search needs
-
 returns : tie.Need-returns
 returns c = rw (c .if1 .taken) (omega arith, omega arith)
 
-returns-2 : tie.Need-returns-2
-returns-2 c = rw (c .if1 .left) (omega arith, omega arith)
-
 pub bit-before-spec : {M : Type 1} → statement M
-bit-before-spec = tie.close (tie.spec mul-result add-result mul-result-2 returns returns-2)
+bit-before-spec =
+    tie.close
+    (tie.spec
+    (λ c. search needs) (λ c. search needs) (λ c. search needs) returns
+    (λ c. rw (c .if1 .left) (omega arith, omega arith)))

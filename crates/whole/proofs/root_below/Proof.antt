@@ -18,31 +18,16 @@ abbrev μ-loop : tie.MeasureT-loop
 wider : {x a b : ℕ} → x < a * a → a ≤ b → x < b * b
 wider h k = lt-of-lt-of-le h (mul-le-mul k k)
 
-loop-holds : tie.Need-loop-holds Inv-loop μ-loop
-loop-holds c = search needs
-
-sub-w : tie.Need-sub-w Inv-loop μ-loop
-sub-w c = search needs
-
-add-t : tie.Need-add-t Inv-loop μ-loop
-add-t c = search needs
-
 mul-if1 : tie.Need-mul-if1 Inv-loop μ-loop
 mul-if1 c =
     let l = c .before .loop in
     let t : l .r + l .w / 2 ≤ 2 ^ 32 - 1 = omega arith in
     omega (arith, mul-le-mul t t)
 
-loop-less : tie.Need-loop-less Inv-loop μ-loop
-loop-less c = omega arith
-
 loop-again : tie.Need-loop-again Inv-loop μ-loop
 loop-again c =
     let l = c .before .before .loop in
     (omega arith, wider (l .inv .1) (omega arith), omega arith)
-
-loop-less-2 : tie.Need-loop-less-2 Inv-loop μ-loop
-loop-less-2 c = omega arith
 
 loop-again-2 : tie.Need-loop-again-2 Inv-loop μ-loop
 loop-again-2 c =
@@ -58,14 +43,5 @@ pub root-below-spec : {M : Type 1} → statement M
 root-below-spec =
     tie.close
     (tie.spec
-    Inv-loop
-    μ-loop
-    loop-holds
-    sub-w
-    add-t
-    mul-if1
-    loop-less
-    loop-again
-    loop-less-2
-    loop-again-2
-    returns)
+    Inv-loop μ-loop (λ c. search needs) (λ c. search needs) (λ c. search needs) mul-if1 (λ c. omega arith) loop-again
+    (λ c. omega arith) loop-again-2 returns)

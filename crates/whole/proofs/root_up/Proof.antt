@@ -19,9 +19,6 @@ module _ {x r : ℕ} (e : r ≡ floorRoot x) where
   exact : x ≤ r * r → IsRootUp x r
   exact h = record { reach = h; least = λ v k. omega (arith, sq-lt r (v + 1) (omega (arith, rooted .low, k))) }
 
-floor-root-requires : tie.Need-floor-root-requires
-floor-root-requires c κs = search needs
-
 mul-if1 : tie.Need-mul-if1
 mul-if1 c = omega (arith, rooted (c .floor-root .ensures) .low)
 
@@ -36,4 +33,4 @@ returns-2 : tie.Need-returns-2
 returns-2 c = rootUp-unique (exact (c .before .floor-root .ensures) (c .if1 .left)) (rootUp-is _)
 
 pub root-up-spec : {M : Type 1} → statement M
-root-up-spec = tie.close (tie.spec floor-root-requires mul-if1 add-result returns returns-2)
+root-up-spec = tie.close (tie.spec (λ c κs. search needs) mul-if1 add-result returns returns-2)

@@ -36,9 +36,6 @@ div-s c = (lit< tt, simp (rd (c .pre .2) tt) (fit (halved c) tt))
 add-s : tie.Need-add-s
 add-s c = simp (rd (c .pre .1) tt, rd (c .pre .2) tt, rd (halved c) tt) (fit (small c) tt)
 
-floor-rem-requires : tie.Need-floor-rem-requires
-floor-rem-requires c κs = search needs
-
 -- what is left over
 left-over : (c : tie.After-floor-rem) → c .floor-rem .result ≡ rest (sum (c .before)) (c .before .args .d)
 left-over c =
@@ -76,4 +73,4 @@ returns c =
     (rw (left-over c, ← (half (s .args .d) (h .0))) (remainder (sum s) (s .args .d) (h .0) .quotient))
 
 pub round-by-spec : {M : Type 1} → statement M
-round-by-spec = tie.close (tie.spec div-s add-s floor-rem-requires sub-result div-result returns)
+round-by-spec = tie.close (tie.spec div-s add-s (λ c κs. search needs) sub-result div-result returns)

@@ -1,4 +1,4 @@
--- `whole::signed` meets its contract: the two cases of two's complement. Assumes nothing.
+-- `whole::signed` meets its contract: the two cases of two's complement.
 use Prim.Native.Nat.{ℕ, _<_, _≤_}
 use mathlib.Core.Path.{_≡_}
 use native.Mathlib.Omega.{arith}
@@ -34,24 +34,9 @@ module _ (v : ℕ) (h : 32768 ≤ v) (k : v < 65536) where
   high : toZ w16 (ofZ w16 (toZ w32 (ofZ w32 (toZ w32 v -ℤ pos 65536)))) ≡ signed v
   high = rw (toZ-ofZ cut, toZ-ofZ wide, read, le-ltb v 32768 h)
 
-cast-result : tie.Need-cast-result
-cast-result c = search needs
-
-cast-result-2 : tie.Need-cast-result-2
-cast-result-2 c = search needs
-
-sub-result : tie.Need-sub-result
-sub-result c = wide _ (c .if1 .left) (omega arith)
-
-cast-result-3 : tie.Need-cast-result-3
-cast-result-3 c = cut _ (c .if1 .left) (omega arith)
-
-returns : tie.Need-returns
-returns c = low _ (c .if1 .taken)
-
-returns-2 : tie.Need-returns-2
-returns-2 c = high _ (c .if1 .left) (omega arith)
-
 pub signed-spec : {M : Type 1} → statement M
 signed-spec =
-    tie.close (tie.spec cast-result cast-result-2 sub-result cast-result-3 returns returns-2)
+    tie.close
+    (tie.spec
+    (λ c. search needs) (λ c. search needs) (λ c. wide _ (c .if1 .left) (omega arith))
+    (λ c. cut _ (c .if1 .left) (omega arith)) (λ c. low _ (c .if1 .taken)) (λ c. high _ (c .if1 .left) (omega arith)))

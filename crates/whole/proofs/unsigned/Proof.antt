@@ -1,4 +1,4 @@
--- `whole::unsigned` meets its contract: a negative number is read as 32 bits and is 65536 more, any other stands as it is. Assumes nothing.
+-- `whole::unsigned` meets its contract: a negative number is read as 32 bits and is 65536 more, any other stands as it is.
 use Prim.Native.Nat.{_<_}
 use mathlib.Core.Path.{_≡_, refl, ap, _∙_}
 use native.Mathlib.Nat.{not-suc-le-zero}
@@ -60,9 +60,8 @@ cast-result-3 c = rw (above c) (tt, record { fits = few _ (c .before .fits .z) }
 returns : tie.Need-returns
 returns c = ap natAbs (more _ (c .before .fits .z) (below c))
 
-returns-2 : tie.Need-returns-2
-returns-2 c = ap natAbs (above c)
-
 pub unsigned-spec : {M : Type 1} → statement M
 unsigned-spec =
-    tie.close (tie.spec cast-result add-result cast-result-2 cast-result-3 returns returns-2)
+    tie.close
+    (tie.spec
+    cast-result add-result cast-result-2 cast-result-3 returns (λ c. ap natAbs (above c)))

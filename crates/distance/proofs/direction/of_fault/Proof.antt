@@ -1,4 +1,4 @@
--- `distance::direction::of_fault` meets its contract: the settings are in range, so every call may be made. Assumes nothing.
+-- `distance::direction::of_fault` meets its contract: the settings are in range, so every call may be made.
 use mathlib.Core.Path.{_≡_, sym, ap, _∙_}
 use borrow.Author.Needs.{needs}
 use denote.Ref.{now}
@@ -31,24 +31,6 @@ sides c =
     (simp (back (zf .result) (zf .ok), back (zr .result) (zr .ok), back (t .torque .result) (t .torque .ok), back (q .square .result) (q .square .ok)) at (c .side .ensures))
     ∙ (λ k. sideOf (zf .ensures k) (zr .ensures k) (T k) (q .square .ensures k))
 
-reaches-pickup-requires : tie.Need-reaches-pickup-requires
-reaches-pickup-requires c κs = search needs
-
-forward-limit-requires : tie.Need-forward-limit-requires
-forward-limit-requires c κs = search needs
-
-reverse-limit-requires : tie.Need-reverse-limit-requires
-reverse-limit-requires c κs = search needs
-
-angle-requires : tie.Need-angle-requires
-angle-requires c κs = search needs
-
-torque-requires : tie.Need-torque-requires
-torque-requires c κs = search needs
-
-square-requires : tie.Need-square-requires
-square-requires c κs = search needs
-
 side-requires : tie.Need-side-requires
 side-requires c κs =
     let r = c .before .before .before in
@@ -77,12 +59,5 @@ pub of-fault-spec : {M : Type 1} → statement M
 of-fault-spec =
     tie.close
     (tie.spec
-    reaches-pickup-requires
-    forward-limit-requires
-    reverse-limit-requires
-    angle-requires
-    torque-requires
-    square-requires
-    side-requires
-    returns
-    returns-2)
+    (λ c κs. search needs) (λ c κs. search needs) (λ c κs. search needs) (λ c κs. search needs)
+    (λ c κs. search needs) (λ c κs. search needs) side-requires returns returns-2)

@@ -1,4 +1,4 @@
--- `distance::direction::reaches_pickup` meets its contract: the pickup's square fits. Assumes nothing.
+-- `distance::direction::reaches_pickup` meets its contract: the pickup's square fits.
 use borrow.Author.Needs.{needs}
 use Rattle.whole.specs.Range.{Within}
 use Rattle.whole.proofs.Machine.{back}
@@ -11,14 +11,8 @@ use Rattle.distance.proofs.direction.reaches_pickup.Tie as tie
 small : (c : tie.After-negative-pickup) → Within 42000 (c .negative-pickup .result)
 small c = along (c .negative-pickup .ensures) (pickup-within (c .before .before .pre .0))
 
-negative-pickup-requires : tie.Need-negative-pickup-requires
-negative-pickup-requires c κs = search needs
-
 mul-result : tie.Need-mul-result
 mul-result c = let h = small c in simp (rd h tt) (fit (mul h h) tt)
-
-square-requires : tie.Need-square-requires
-square-requires c κs = search needs
 
 returns : tie.Need-returns
 unfolding reachesPickup
@@ -27,4 +21,4 @@ returns c =
     simp (rd h tt, rd (mul h h) tt, back (c .square .result) (c .square .ok)) (rw (c .square .ensures, c .before .negative-pickup .ensures))
 
 pub reaches-pickup-spec : {M : Type 1} → statement M
-reaches-pickup-spec = tie.close (tie.spec negative-pickup-requires mul-result square-requires returns)
+reaches-pickup-spec = tie.close (tie.spec (λ c κs. search needs) mul-result (λ c κs. search needs) returns)

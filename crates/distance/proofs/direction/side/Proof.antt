@@ -1,4 +1,4 @@
--- `distance::direction::side` meets its contract: two products fit, and the tests are those of the definition. Assumes nothing.
+-- `distance::direction::side` meets its contract: two products fit, and the tests are those of the definition.
 use mathlib.Core.Path.{_≡_}
 use mathlib.Core.Bool.{false}
 use lib.IntN.{_*ℤ_}

@@ -1,4 +1,4 @@
--- `distance::line::angle` meets its contract: D is its two fields, which are in range. Assumes nothing.
+-- `distance::line::angle` meets its contract: D is its two fields, which are in range.
 use mathlib.Core.Path.{refl}
 use borrow.Author.Needs.{needs}
 use denote.Ref.{now}
@@ -8,12 +8,6 @@ use Rattle.distance.proofs.Sizes.{angle-inside}
 use Rattle.distance.proofs.line.angle.Statement.{statement}
 use Rattle.distance.proofs.line.angle.Tie as tie
 
-angle-real-requires : tie.Need-angle-real-requires
-angle-real-requires c κs = search needs
-
-angle-imaginary-requires : tie.Need-angle-imaginary-requires
-angle-imaginary-requires c κs = search needs
-
 returns : tie.Need-returns
 returns c =
     let re = c .before .angle-real in
@@ -21,4 +15,4 @@ returns c =
     rw (made (angle (now (c .before .before .before .args .s))) (re .ok) (im .ok) (re .ensures) (im .ensures)) (refl, angle-inside (c .before .before .before .pre))
 
 pub angle-spec : {M : Type 1} → statement M
-angle-spec = tie.close (tie.spec angle-real-requires angle-imaginary-requires returns)
+angle-spec = tie.close (tie.spec (λ c κs. search needs) (λ c κs. search needs) returns)

@@ -1,4 +1,4 @@
--- `distance::line::compensation` meets its contract: k is its two fields, which are in range. Assumes nothing.
+-- `distance::line::compensation` meets its contract: k is its two fields, which are in range.
 use mathlib.Core.Path.{refl}
 use borrow.Author.Needs.{needs}
 use denote.Ref.{now}
@@ -8,12 +8,6 @@ use Rattle.distance.proofs.Sizes.{compensation-inside}
 use Rattle.distance.proofs.line.compensation.Statement.{statement}
 use Rattle.distance.proofs.line.compensation.Tie as tie
 
-k-real-requires : tie.Need-k-real-requires
-k-real-requires c κs = search needs
-
-k-imaginary-requires : tie.Need-k-imaginary-requires
-k-imaginary-requires c κs = search needs
-
 returns : tie.Need-returns
 returns c =
     let re = c .before .k-real in
@@ -21,4 +15,4 @@ returns c =
     rw (made (compensation (now (c .before .before .before .args .s))) (re .ok) (im .ok) (re .ensures) (im .ensures)) (refl, compensation-inside (c .before .before .before .pre))
 
 pub compensation-spec : {M : Type 1} → statement M
-compensation-spec = tie.close (tie.spec k-real-requires k-imaginary-requires returns)
+compensation-spec = tie.close (tie.spec (λ c κs. search needs) (λ c κs. search needs) returns)

@@ -1,4 +1,4 @@
--- `distance::line::replica` meets its contract: Z is its two fields, which are in range. Assumes nothing.
+-- `distance::line::replica` meets its contract: Z is its two fields, which are in range.
 use mathlib.Core.Path.{refl}
 use borrow.Author.Needs.{needs}
 use denote.Ref.{now}
@@ -8,12 +8,6 @@ use Rattle.distance.proofs.Sizes.{replica-inside}
 use Rattle.distance.proofs.line.replica.Statement.{statement}
 use Rattle.distance.proofs.line.replica.Tie as tie
 
-replica-real-requires : tie.Need-replica-real-requires
-replica-real-requires c κs = search needs
-
-replica-imaginary-requires : tie.Need-replica-imaginary-requires
-replica-imaginary-requires c κs = search needs
-
 returns : tie.Need-returns
 returns c =
     let re = c .before .replica-real in
@@ -21,4 +15,4 @@ returns c =
     rw (made (replica (now (c .before .before .before .args .s))) (re .ok) (im .ok) (re .ensures) (im .ensures)) (refl, replica-inside (c .before .before .before .pre))
 
 pub replica-spec : {M : Type 1} → statement M
-replica-spec = tie.close (tie.spec replica-real-requires replica-imaginary-requires returns)
+replica-spec = tie.close (tie.spec (λ c κs. search needs) (λ c κs. search needs) returns)

@@ -1,4 +1,4 @@
--- `distance::mho::asserts` meets its contract: n and m are in the range of the rule. Assumes nothing.
+-- `distance::mho::asserts` meets its contract: n and m are in the range of the rule.
 use mathlib.Core.Path.{_≡_, ap, ap₂, _∙_}
 use Prim.Native.Nat.{_^_}
 use mir.Facts.{toZ-ofZ}

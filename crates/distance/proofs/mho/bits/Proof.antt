@@ -1,16 +1,10 @@
--- `distance::mho::bits` meets its contract, from the last loop to the first. Assumes nothing.
+-- `distance::mho::bits` meets its contract, from the last loop to the first.
 use mathlib.Core.Path.{_≡_, ap, _∙_}
 use Prim.Native.Nat.{ℕ, _+_, _*_}
 use mathlib.Core.Bool.{Bool, cond}
 use native.Mathlib.Omega.{arith}
 use Rattle.distance.proofs.mho.bits.Statement.{statement}
 use Rattle.distance.proofs.mho.bits.Tie as tie
-
-bit-before-requires : tie.Need-bit-before-requires
-bit-before-requires c κs = omega arith
-
-bit-before-requires-2 : tie.Need-bit-before-requires-2
-bit-before-requires-2 c κs = omega (arith, c .bit-before .ensures .1)
 
 bit-before-requires-3 : tie.Need-bit-before-requires-3
 bit-before-requires-3 c κs = omega (arith, c .bit-before2 .ensures .1, c .before .bit-before .ensures .1)
@@ -53,10 +47,5 @@ pub bits-spec : {M : Type 1} → statement M
 bits-spec =
     tie.close
     (tie.spec
-    bit-before-requires
-    bit-before-requires-2
-    bit-before-requires-3
-    bit-before-requires-4
-    bit-before-requires-5
-    bit-before-requires-6
-    returns)
+    (λ c κs. omega arith) (λ c κs. omega (arith, c .bit-before .ensures .1)) bit-before-requires-3
+    bit-before-requires-4 bit-before-requires-5 bit-before-requires-6 returns)

@@ -1,4 +1,4 @@
--- `distance::mho::bits_at` meets its contract: each loop at the same reach, and its bit. Assumes nothing.
+-- `distance::mho::bits_at` meets its contract: each loop at the same reach, and its bit.
 use mathlib.Core.Path.{_∙_}
 use mathlib.Core.List.{[], _∷_}
 use borrow.Author.Needs.{needs}
@@ -7,30 +7,6 @@ use Rattle.whole.specs.Bits.{bits}
 use Rattle.distance.specs.Mho.{asserts, loopBits}
 use Rattle.distance.proofs.mho.bits_at.Statement.{statement}
 use Rattle.distance.proofs.mho.bits_at.Tie as tie
-
-replica-requires : tie.Need-replica-requires
-replica-requires c κs = search needs
-
-asserts-requires : tie.Need-asserts-requires
-asserts-requires c κs = search needs
-
-asserts-requires-2 : tie.Need-asserts-requires-2
-asserts-requires-2 c κs = search needs
-
-asserts-requires-3 : tie.Need-asserts-requires-3
-asserts-requires-3 c κs = search needs
-
-asserts-requires-4 : tie.Need-asserts-requires-4
-asserts-requires-4 c κs = search needs
-
-asserts-requires-5 : tie.Need-asserts-requires-5
-asserts-requires-5 c κs = search needs
-
-asserts-requires-6 : tie.Need-asserts-requires-6
-asserts-requires-6 c κs = search needs
-
-bits-requires : tie.Need-bits-requires
-bits-requires c κs = search needs
 
 returns : tie.Need-returns
 unfolding loopBits
@@ -56,12 +32,5 @@ pub bits-at-spec : {M : Type 1} → statement M
 bits-at-spec =
     tie.close
     (tie.spec
-    replica-requires
-    asserts-requires
-    asserts-requires-2
-    asserts-requires-3
-    asserts-requires-4
-    asserts-requires-5
-    asserts-requires-6
-    bits-requires
-    returns)
+    (λ c κs. search needs) (λ c κs. search needs) (λ c κs. search needs) (λ c κs. search needs)
+    (λ c κs. search needs) (λ c κs. search needs) (λ c κs. search needs) (λ c κs. search needs) returns)

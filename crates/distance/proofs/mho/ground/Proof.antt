@@ -1,13 +1,10 @@
--- `distance::mho::ground` meets its contract: a ground loop has its phase's voltage, and its current with the k product. Assumes nothing.
+-- `distance::mho::ground` meets its contract: a ground loop has its phase's voltage, and its current with the k product.
 use mathlib.Core.Path.{refl}
 use borrow.Author.Needs.{needs}
 use Rattle.plane.proofs.Bounds.{inside-plus, inside-wider}
 use Rattle.distance.specs.Mho.{ground}
 use Rattle.distance.proofs.mho.ground.Statement.{statement}
 use Rattle.distance.proofs.mho.ground.Tie as tie
-
-plus-requires : tie.Need-plus-requires
-plus-requires c κs = search needs
 
 returns : tie.Need-returns
 unfolding ground
@@ -16,4 +13,4 @@ returns c =
     rw (c .plus .ensures) (refl, record { voltage = inside-wider (h .0) tt; current = inside-plus (h .1) (h .2); polarising = h .3 })
 
 pub ground-spec : {M : Type 1} → statement M
-ground-spec = tie.close (tie.spec plus-requires returns)
+ground-spec = tie.close (tie.spec (λ c κs. search needs) returns)

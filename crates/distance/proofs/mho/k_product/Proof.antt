@@ -1,4 +1,4 @@
--- `distance::mho::k_product` meets its contract: the product fits. Assumes nothing.
+-- `distance::mho::k_product` meets its contract: the product fits.
 use mathlib.Core.Path.{ap, _∙_}
 use borrow.Author.Needs.{needs}
 use lib.IntN.{pos}
@@ -10,9 +10,6 @@ use Rattle.distance.specs.Mho.{kProduct}
 use Rattle.distance.proofs.Sizes.{k-product-inside}
 use Rattle.distance.proofs.mho.k_product.Statement.{statement}
 use Rattle.distance.proofs.mho.k_product.Tie as tie
-
-residual-requires : tie.Need-residual-requires
-residual-requires c κs = search needs
 
 times-requires : tie.Need-times-requires
 times-requires c κs =
@@ -34,4 +31,4 @@ returns c =
     (e, inside-along e (k-product-inside (s .pre .0) (s .pre .1)))
 
 pub k-product-spec : {M : Type 1} → statement M
-k-product-spec = tie.close (tie.spec residual-requires times-requires rounded-requires returns)
+k-product-spec = tie.close (tie.spec (λ c κs. search needs) times-requires rounded-requires returns)

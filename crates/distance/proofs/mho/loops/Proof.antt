@@ -1,4 +1,4 @@
--- `distance::mho::loops` meets its contract: the k product, P, aP and a²P are those of the definition. Assumes nothing.
+-- `distance::mho::loops` meets its contract: the k product, P, aP and a²P are those of the definition.
 use mathlib.Core.Path.{_≡_, ap, _∙_}
 use borrow.Author.Needs.{needs}
 use denote.Ref.{now}
@@ -26,30 +26,6 @@ module _ (c : tie.After-turned2) where
   a²p-is : c .turned2 .result ≡ turned a² (positive (start .args .v))
   a²p-is = c .turned2 .ensures .0 ∙ (λ k. turned (c .before .before .a2 .ensures .0 k) (p .positive .ensures .0 k))
 
-compensation-requires : tie.Need-compensation-requires
-compensation-requires c κs = search needs
-
-k-product-requires : tie.Need-k-product-requires
-k-product-requires c κs = search needs
-
-positive-requires : tie.Need-positive-requires
-positive-requires c κs = search needs
-
-a-requires : tie.Need-a-requires
-a-requires c κs = search needs
-
-a2-requires : tie.Need-a2-requires
-a2-requires c κs = search needs
-
-turned-requires : tie.Need-turned-requires
-turned-requires c κs = search needs
-
-turned-requires-2 : tie.Need-turned-requires-2
-turned-requires-2 c κs = search needs
-
-six-requires : tie.Need-six-requires
-six-requires c κs = search needs
-
 returns : tie.Need-returns
 unfolding loopsOf
 returns c =
@@ -62,12 +38,5 @@ pub loops-spec : {M : Type 1} → statement M
 loops-spec =
     tie.close
     (tie.spec
-    compensation-requires
-    k-product-requires
-    positive-requires
-    a-requires
-    a2-requires
-    turned-requires
-    turned-requires-2
-    six-requires
-    returns)
+    (λ c κs. search needs) (λ c κs. search needs) (λ c κs. search needs) (λ c κs. search needs)
+    (λ c κs. search needs) (λ c κs. search needs) (λ c κs. search needs) (λ c κs. search needs) returns)

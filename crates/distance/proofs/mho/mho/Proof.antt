@@ -1,4 +1,4 @@
--- `distance::mho::mho` meets its contract: the two products fit, and the tests are those of the definition. Assumes nothing.
+-- `distance::mho::mho` meets its contract: the two products fit, and the tests are those of the definition.
 use lib.IntN.{pos}
 use Rattle.whole.proofs.Size.{lit, mul, fit, rd}
 use Rattle.distance.specs.Mho.{mho}

@@ -1,19 +1,10 @@
--- `distance::mho::phase` meets its contract: a phase loop has the differences of its two phases, and minus j times P. Assumes nothing.
+-- `distance::mho::phase` meets its contract: a phase loop has the differences of its two phases, and minus j times P.
 use mathlib.Core.Path.{refl}
 use borrow.Author.Needs.{needs}
 use Rattle.plane.proofs.Bounds.{inside-minus, inside-minus-j, inside-wider}
 use Rattle.distance.specs.Mho.{phase}
 use Rattle.distance.proofs.mho.phase.Statement.{statement}
 use Rattle.distance.proofs.mho.phase.Tie as tie
-
-minus-requires : tie.Need-minus-requires
-minus-requires c κs = search needs
-
-minus-requires-2 : tie.Need-minus-requires-2
-minus-requires-2 c κs = search needs
-
-minus-j-requires : tie.Need-minus-j-requires
-minus-j-requires c κs = search needs
 
 returns : tie.Need-returns
 unfolding phase
@@ -30,4 +21,4 @@ returns c =
     )
 
 pub phase-spec : {M : Type 1} → statement M
-phase-spec = tie.close (tie.spec minus-requires minus-requires-2 minus-j-requires returns)
+phase-spec = tie.close (tie.spec (λ c κs. search needs) (λ c κs. search needs) (λ c κs. search needs) returns)

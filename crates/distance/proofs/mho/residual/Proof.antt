@@ -1,4 +1,4 @@
--- `distance::mho::residual` meets its contract: the sum of three currents. Assumes nothing.
+-- `distance::mho::residual` meets its contract: the sum of three currents.
 use mathlib.Core.Path.{ap, _∙_}
 use borrow.Author.Needs.{needs}
 use Rattle.plane.specs.declared.Phasor.{Phasor}
@@ -8,9 +8,6 @@ use Rattle.distance.specs.Mho.{residual}
 use Rattle.distance.proofs.Sizes.{residual-inside}
 use Rattle.distance.proofs.mho.residual.Statement.{statement}
 use Rattle.distance.proofs.mho.residual.Tie as tie
-
-plus-requires : tie.Need-plus-requires
-plus-requires c κs = search needs
 
 plus-requires-2 : tie.Need-plus-requires-2
 plus-requires-2 c κs =
@@ -25,4 +22,4 @@ returns c =
     (e, inside-along e (residual-inside (s .pre)))
 
 pub residual-spec : {M : Type 1} → statement M
-residual-spec = tie.close (tie.spec plus-requires plus-requires-2 returns)
+residual-spec = tie.close (tie.spec (λ c κs. search needs) plus-requires-2 returns)

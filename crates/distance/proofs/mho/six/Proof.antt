@@ -1,4 +1,4 @@
--- `distance::mho::six` meets its contract: each loop is given what the definition has for it. Assumes nothing.
+-- `distance::mho::six` meets its contract: each loop is given what the definition has for it.
 use Rattle.distance.proofs.mho.six.Statement.{statement}
 use Rattle.distance.proofs.mho.six.Tie as tie
 
@@ -37,10 +37,4 @@ pub six-spec : {M : Type 1} → statement M
 six-spec =
     tie.close
     (tie.spec
-    ground-requires
-    ground-requires-2
-    ground-requires-3
-    phase-requires
-    phase-requires-2
-    phase-requires-3
-    returns)
+    ground-requires ground-requires-2 ground-requires-3 phase-requires phase-requires-2 phase-requires-3 returns)

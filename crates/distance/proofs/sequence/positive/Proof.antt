@@ -1,13 +1,7 @@
--- `distance::sequence::positive` meets its contract: 3V1 by its two factors. Assumes nothing.
+-- `distance::sequence::positive` meets its contract: 3V1 by its two factors.
 use borrow.Author.Needs.{needs}
 use Rattle.distance.proofs.sequence.positive.Statement.{statement}
 use Rattle.distance.proofs.sequence.positive.Tie as tie
-
-a-requires : tie.Need-a-requires
-a-requires c κs = search needs
-
-a2-requires : tie.Need-a2-requires
-a2-requires c κs = search needs
 
 sequence-requires : tie.Need-sequence-requires
 sequence-requires c κs = (c .before .a .ensures .1, c .a2 .ensures .1, c .before .before .pre)
@@ -16,4 +10,4 @@ returns : tie.Need-returns
 returns c = rw (c .before .before .a .ensures .0, c .before .a2 .ensures .0) at (c .sequence .ensures)
 
 pub positive-spec : {M : Type 1} → statement M
-positive-spec = tie.close (tie.spec a-requires a2-requires sequence-requires returns)
+positive-spec = tie.close (tie.spec (λ c κs. search needs) (λ c κs. search needs) sequence-requires returns)

@@ -1,4 +1,4 @@
--- `distance::sequence::sequence` meets its contract: what is formed at scale 16384 fits. Assumes nothing.
+-- `distance::sequence::sequence` meets its contract: what is formed at scale 16384 fits.
 use mathlib.Core.Path.{ap, ap₂, _∙_}
 use Prim.Native.Nat.{_^_}
 use lib.IntN.{pos}
@@ -64,10 +64,4 @@ pub sequence-spec : {M : Type 1} → statement M
 sequence-spec =
     tie.close
     (tie.spec
-    scaled-requires
-    times-requires
-    times-requires-2
-    plus-requires
-    plus-requires-2
-    rounded-requires
-    returns)
+    scaled-requires times-requires times-requires-2 plus-requires plus-requires-2 rounded-requires returns)

@@ -1,4 +1,4 @@
--- `distance::sequence::turned` meets its contract: the product fits. Assumes nothing.
+-- `distance::sequence::turned` meets its contract: the product fits.
 use mathlib.Core.Path.{ap, _∙_}
 use lib.IntN.{pos}
 use lib.Signed.{ltZ-yes}
