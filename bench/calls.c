@@ -161,7 +161,7 @@ static void extent_table(long windows) {
   }
   printf("\nThe most: %ld, with %d ends. It is bounded: nothing calls itself, and a loop turns once for each end, phase, frame, sample\n",
          all(of[at].most), at);
-  printf("or byte of a record, or once for each bit of one of six widths of the root. How often a loop turns hangs on the value of a\n");
+  printf("or byte of a record, or once for each bit of one of six widths of the root. How often a loop turns depends on the value of a\n");
   printf("sample only through that width; besides, it decides some short branches: the pickups and the sign of m. A missing sample adds\n");
   printf("a search over the samples, after which the call ends.\n");
 }

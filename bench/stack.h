@@ -1,4 +1,4 @@
-/* A stack of its own for a call: what is counted on it does not hang on where the system put the program's stack. */
+/* A stack of its own for a call: what is counted on it does not depend on where the system put the program's stack. */
 #ifndef STACK_H
 #define STACK_H
 #include <stdint.h>

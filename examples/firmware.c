@@ -18,19 +18,19 @@ enum { ENDS = 2, CHANNELS = 3 + 3 * ENDS, WINDOW = GORSEPETAL_WINDOW_BYTES(ENDS)
 /* The settings of a line with two ends, all but the slope as the planning department gave them. */
 static void fill(uint8_t record[GORSEPETAL_RECORD_LENGTH], int slope) {
   for (int i = 0; i < GORSEPETAL_RECORD_LENGTH; i++) record[i] = 0;
-  put(record, 0, ENDS);   /* ends */
-  put(record, 2, slope);  /* slope, percent */
-  put(record, 4, 60);     /* differential pickup, counts */
-  put(record, 6, 0);      /* replica impedance, real */
-  put(record, 8, 1000);   /* and imaginary, thousandths */
-  put(record, 10, 850);   /* reach, thousandths of the replica */
-  put(record, 12, 667);   /* k, real */
-  put(record, 14, 0);     /* and imaginary, thousandths */
-  put(record, 16, 0);     /* line angle, real */
-  put(record, 18, 1000);  /* and imaginary */
-  put(record, 20, -300);  /* forward limit */
-  put(record, 22, 300);   /* reverse limit */
-  put(record, 24, 50);    /* pickup of 3I2, counts */
+  put(record, GORSEPETAL_AT_ENDS, ENDS);
+  put(record, GORSEPETAL_AT_SLOPE, slope);               /* percent */
+  put(record, GORSEPETAL_AT_PICKUP, 60);                 /* of the differential, counts */
+  put(record, GORSEPETAL_AT_REPLICA_REAL, 0);
+  put(record, GORSEPETAL_AT_REPLICA_IMAGINARY, 1000);    /* thousandths */
+  put(record, GORSEPETAL_AT_REACH, 850);                 /* thousandths of the replica */
+  put(record, GORSEPETAL_AT_K_REAL, 667);                /* thousandths */
+  put(record, GORSEPETAL_AT_K_IMAGINARY, 0);
+  put(record, GORSEPETAL_AT_ANGLE_REAL, 0);              /* of the line */
+  put(record, GORSEPETAL_AT_ANGLE_IMAGINARY, 1000);
+  put(record, GORSEPETAL_AT_FORWARD_LIMIT, -300);
+  put(record, GORSEPETAL_AT_REVERSE_LIMIT, 300);
+  put(record, GORSEPETAL_AT_NEGATIVE_SEQUENCE_PICKUP, 50); /* counts */
 }
 
 static const char *meaning(uint64_t number) {

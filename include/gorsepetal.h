@@ -12,7 +12,7 @@
 ** threads may call at once, each on a relay's state and on buffers of its own. The archive is for x86-64, System V calling
 ** convention. What is proved of its source, and what is only tested of the archive, stands in docs/CLAIMS.md.
 **
-** A call takes less than 2 KiB of stack, and a number of instructions that hangs on the ends of the line and on nothing that could
+** A call takes less than 2 KiB of stack, and a number of instructions that depends on the ends of the line and on nothing that could
 ** grow: docs/BENCHMARKS.md has the figures, which are measured and not proved.
 **
 ** LENT SLICES
@@ -136,11 +136,28 @@
 extern "C" {
 #endif
 
-/* Lengths in bytes: a relay's state, a settings record, a decision, and a window of a line with so many ends. */
+/* Lengths in bytes: a relay's state, a settings record, a decision, and a window of a line with so many ends. The longest window, that
+** of six ends, in numbers. */
 #define GORSEPETAL_STATE_LENGTH 64
 #define GORSEPETAL_RECORD_LENGTH 32
 #define GORSEPETAL_DECISION_LENGTH 32
 #define GORSEPETAL_WINDOW_BYTES(ends) (2 * 16 * (3 + 3 * (ends)))
+#define GORSEPETAL_LONGEST_WINDOW_NUMBERS 336
+
+/* The offset of each field of a settings record. */
+#define GORSEPETAL_AT_ENDS 0
+#define GORSEPETAL_AT_SLOPE 2
+#define GORSEPETAL_AT_PICKUP 4
+#define GORSEPETAL_AT_REPLICA_REAL 6
+#define GORSEPETAL_AT_REPLICA_IMAGINARY 8
+#define GORSEPETAL_AT_REACH 10
+#define GORSEPETAL_AT_K_REAL 12
+#define GORSEPETAL_AT_K_IMAGINARY 14
+#define GORSEPETAL_AT_ANGLE_REAL 16
+#define GORSEPETAL_AT_ANGLE_IMAGINARY 18
+#define GORSEPETAL_AT_FORWARD_LIMIT 20
+#define GORSEPETAL_AT_REVERSE_LIMIT 22
+#define GORSEPETAL_AT_NEGATIVE_SEQUENCE_PICKUP 24
 
 /* The numbers given back: the table above says when. */
 #define GORSEPETAL_DONE 0

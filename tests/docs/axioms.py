@@ -6,30 +6,12 @@ none, and stand on none of the kit's crates that do.
 import re
 from pathlib import Path
 
+from layers import crates
 from tree import ROOT, faults, read
 
-CRATES = Path('crates.txt')
 CLAIMS = Path('docs/CLAIMS.md')
 READ_OR_PRINT = {'report', 'session', 'window', 'window_cases'}
 OF_THE_KIT = {'io', 'os', 'libc'}
-
-
-def crates():
-    """Each crate of crates.txt with what it stands on, directly or not."""
-    direct = {}
-    for line in read(CRATES).splitlines():
-        if line and not line.startswith('#'):
-            name, _, needed = line.partition(':')
-            direct[name] = needed.split()
-    reached = {}
-    for name in direct:
-        found, open_ = set(), [name]
-        while open_:
-            more = set(direct.get(open_.pop(), ())) - found
-            found |= more
-            open_ += more
-        reached[name] = found
-    return reached
 
 
 def counted(name):

@@ -70,19 +70,23 @@ def number(text):
     return int(m.group(1), 0) if m else None
 
 
-# The crates whose public constants the header has, each with what the header puts before their names.
-PREFIXES = {'answers': '', 'entry': '', 'decision': 'DECISION_', 'gorsepetal': ''}
+# Whose public constants the header has, each with what it puts before their names: the numbers given back, the lengths that the crate of
+# the calls owns, and the offsets of the settings' fields.
+OWNERS = (('answers', 'lib.rt', ''), ('gorsepetal', 'lib.rt', ''), ('settings', 'at.rt', 'AT_'))
+
+
+def constants(crate, file='lib.rt'):
+    """The public constants of a crate's file, by name. A value is a number, or another crate's constant, `entry::RECORD_LENGTH`."""
+    found = {}
+    text = blank(r'//[^\n]*', read(Path('crates') / crate / 'src' / file))
+    for m in re.finditer(r'\bpub\s+const\s+(\w+)\s*:\s*\w+\s*=\s*([^;]+);', text):
+        other = re.fullmatch(r'(\w+)::(\w+)', m.group(2).strip())
+        found[m.group(1)] = constants(other.group(1)).get(other.group(2)) if other else number(m.group(2))
+    return found
 
 
 def public_constants():
-    found = {}
-    for crate, prefix in PREFIXES.items():
-        for path, text in sources(crate):
-            for m in re.finditer(r'\bpub\s+const\s+(\w+)\s*:\s*\w+\s*=\s*([^;]+);', text):
-                name, value = prefix + m.group(1), number(m.group(2))
-                if value is not None and found.setdefault(name, value) != value:
-                    fault(path, text, m.start(), f'{name} is {value} here and {found[name]} elsewhere')
-    return found
+    return {prefix + name: value for crate, file, prefix in OWNERS for name, value in constants(crate, file).items()}
 
 
 def check_constants():
@@ -98,19 +102,35 @@ def check_constants():
     return len(wanted)
 
 
+def macro(name, argument, text):
+    """What the header's macro NAME(x) comes to, for a whole number x; None where it has no such macro of numbers and x alone."""
+    m = re.search(rf'^[ \t]*#[ \t]*define[ \t]+GORSEPETAL_{name}\((\w+)\)[ \t]+(.+)$', text, flags=re.MULTILINE)
+    expression = re.sub(rf'\b{m.group(1)}\b', str(argument), m.group(2)).replace('/', '//') if m else ''
+    return eval(expression) if re.fullmatch(r'[\d\s()+*/%-]+', expression) else None
+
+
+def check_macros():
+    """The macros that reckon, at values that tell: a window's bytes for each number of ends, and what a call gives back taken apart."""
+    text, source = header(), ' '.join(text for _, text in sources('answers', 'gorsepetal', 'samples'))
+    weight = number(re.search(r'\bconst PLACE_WEIGHT: u64 = (\d+);', source).group(1))
+    frames = constants('samples')['FRAMES']
+    wanted = {('WINDOW_BYTES', ends): 2 * frames * (3 + 3 * ends) for ends in range(2, 7)}
+    wanted |= {('NUMBER', given): given % weight for given in (0, 17, 335 * weight + 4)}
+    wanted |= {('PLACE', given): given // weight for given in (0, 17, 335 * weight + 4)}
+    if wanted['WINDOW_BYTES', 6] != 2 * public_constants()['LONGEST_WINDOW_NUMBERS']:
+        faults.append('crates/samples: the longest window is not that of six ends')
+    faults.extend(f'{HEADER}: GORSEPETAL_{name}({argument}) is {macro(name, argument, text)}; the source has {value}'
+                  for (name, argument), value in wanted.items() if macro(name, argument, text) != value)
+    return len({name for name, _ in wanted})
+
+
 # The manual's tables
-
-
-def public_numbers():
-    """The numbers given back, by name: the public constants of crates/answers."""
-    return {m.group(1): int(m.group(2)) for _, text in sources('answers')
-            for m in re.finditer(r'\bpub\s+const\s+(\w+)\s*:\s*u64\s*=\s*(\d+)\s*;', text)}
 
 
 def check_number_table():
     """The table of numbers is that of crates/answers; each call's list of checks has the numbers that the table says it gives, in
     document 01's order."""
-    text, wanted = read(HEADER), public_numbers()
+    text, wanted = read(HEADER), constants('answers')
     rows = list(re.finditer(r'^\*\*   (\d+)\s+([A-Z_]+)\s.*\s{2,}(\S.*)$', text, flags=re.MULTILINE))
     found = {m.group(2): int(m.group(1)) for m in rows}
     if found != wanted:
@@ -123,17 +143,35 @@ def check_number_table():
     return len(rows)
 
 
+def settings_rules():
+    """The rules of the table of crates/settings, in its order, with numbers for the names of limits."""
+    text = blank(r'--[^\n]*', read(TABLE))
+    defined = dict(re.findall(r'^(\w+) =\s*(.+)$', text, flags=re.MULTILINE))
+    limits = {name: value for name, value in defined.items() if re.fullmatch(r'\d+', value)}
+
+    def rows(part):
+        for piece in re.split(r'\s*(?:∷|\+\+)\s*', part):
+            if piece in defined:
+                yield from rows(defined[piece])
+            elif piece != '[]':
+                piece = re.sub(r'\b(' + '|'.join(limits) + r')\b', lambda m: limits[m[1]], piece)
+                yield re.sub(r'\((negated|pos) (\d+)\)', lambda m: '-' * (m[1] == 'negated') + m[2], piece)
+    return list(rows('settingsTable'))
+
+
 def check_settings_table():
     """The table of fields has the rows of the table of crates/settings; bytes in a row with one range are one row."""
-    text = read(HEADER)
-    table = re.sub(r'\((minus|pos) (\d+)\)', lambda m: '-' * (m[1] == 'minus') + m[2], read(TABLE))
-    rules = [(kind, *map(int, numbers.split())) for kind, numbers in re.findall(r'\b(Unsigned|Signed|Byte)((?: -?\d+){3})', table)]
+    text, all_rules = read(HEADER), settings_rules()
+    rules = [(m[1], *map(int, m[2].split())) for rule in all_rules if (m := re.fullmatch(r'(Unsigned|Signed|Byte)((?: -?\d+){3})', rule))]
     wanted = [next(group)[1:] for _, group in groupby(rules, key=lambda r: r if r[0] != 'Byte' else (r[0], *r[2:]))]
     rows = list(re.finditer(r'^\*\*   (\d+)\s+\S.*?\s(-?\d+)\s+(-?\d+)$', text, flags=re.MULTILINE))
     found = [tuple(map(int, m.groups())) for m in rows]
     if found != wanted:
         fault(HEADER, text, rows[0].start() if rows else 0, f'the table of fields has {found}; crates/settings has {wanted}')
-    for low, high in re.findall(r'\bSquares \d+ \d+ (\d+) (\d+)', table):
-        if not re.search(rf'\b{low}\b.*\b{high}\b', text):
-            fault(HEADER, text, 0, f'the sum of squares, {low} to {high}, is not in the manual')
+    squares = [m for rule in all_rules if (m := re.fullmatch(r'Squares .* (\d+) (\d+)', rule))]
+    for m in squares:
+        if not re.search(rf'\b{m[1]}\b.*\b{m[2]}\b', text):
+            fault(HEADER, text, 0, f'the sum of squares, {m[1]} to {m[2]}, is not in the manual')
+    if len(rules) + len(squares) + sum(rule.startswith('Below ') for rule in all_rules) != len(all_rules):
+        faults.append(f'{TABLE}: a rule of a kind that this check does not know is in {all_rules}')
     return len(rows)

@@ -6,7 +6,7 @@ import sys
 from pathlib import Path
 
 sys.dont_write_bytecode = True
-from axioms import crates  # noqa: E402
+from layers import crates  # noqa: E402
 from tree import ROOT, faults, read  # noqa: E402
 
 ARCHITECTURE = Path('docs/ARCHITECTURE.md')

@@ -9,6 +9,8 @@ import calls
 
 ROOT = os.path.dirname(os.path.dirname(os.path.dirname(os.path.abspath(__file__))))
 KIT = ['sh', os.path.join(ROOT, 'tests', 'kit.sh')]
+# Each program has a driver of its own, so that two may run at once.
+DRIVER = 'driver_' + os.path.splitext(os.path.basename(sys.argv[0]))[0]
 
 
 def arguments(description, count, *more):
@@ -25,7 +27,7 @@ def build(archive):
     """Links the driver with the archive that is named, else with the library's."""
     if archive:
         os.environ['GORSEPETAL_ARCHIVE'] = os.path.abspath(archive)
-    if subprocess.run(KIT + ['program', 'tests/independent/driver.c', 'driver'], check=False).returncode != 0:
+    if subprocess.run(KIT + ['program', 'tests/independent/driver.c', DRIVER], check=False).returncode != 0:
         sys.exit('the driver was not built')
 
 
@@ -55,7 +57,7 @@ def batches(followed, most):
 def compare(made, text):
     """Runs one batch, and gives what each call left; ends at the first difference."""
     with tempfile.TemporaryFile() as out:
-        run = subprocess.run(KIT + ['run', 'driver'], input=text, stdout=out, check=False)
+        run = subprocess.run(KIT + ['run', DRIVER], input=text, stdout=out, check=False)
         out.seek(0)
         answers = out.read()
     at, left = 0, []

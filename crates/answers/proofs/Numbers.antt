@@ -5,16 +5,16 @@ use mathlib.Core.Bool.{Bool, true, false, false≢true}
 use native.Mathlib.Omega.{arith}
 use borrow.Author.Tests.{eq-eqb}
 use Rattle.answers.specs.declared.Answer.{Answer}
-use Rattle.answers.specs.declared.Answer.the-variants.{Done, NoSettings, WindowLength, NoRoom, MissingSample, EntryLength, OutOfRange, NothingPending, Differs, NoRelay}
+use Rattle.answers.specs.declared.Answer.the-variants.{Done, NoSettings, OtherWindowLength, NoRoom, MissingSample, OtherEntryLength, OutOfRange, NothingPending, Differs, NoRelay}
 use Rattle.answers.specs.Answers.{number, givenBack, isDone}
 
 pub done-is : (a : Answer) → isDone a ≡ true → a ≡ Done
 done-is Done t = refl
 done-is NoSettings t = absurd (false≢true t)
-done-is WindowLength t = absurd (false≢true t)
+done-is OtherWindowLength t = absurd (false≢true t)
 done-is NoRoom t = absurd (false≢true t)
 done-is (MissingSample k) t = absurd (false≢true t)
-done-is EntryLength t = absurd (false≢true t)
+done-is OtherEntryLength t = absurd (false≢true t)
 done-is (OutOfRange k) t = absurd (false≢true t)
 done-is NothingPending t = absurd (false≢true t)
 done-is (Differs k) t = absurd (false≢true t)
@@ -40,10 +40,10 @@ not-zero-refused a f = by-test (isDone a) refl
 pub number-small : (a : Answer) → number a < 256
 number-small Done = omega arith
 number-small NoSettings = omega arith
-number-small WindowLength = omega arith
+number-small OtherWindowLength = omega arith
 number-small NoRoom = omega arith
 number-small (MissingSample k) = omega arith
-number-small EntryLength = omega arith
+number-small OtherEntryLength = omega arith
 number-small (OutOfRange k) = omega arith
 number-small NothingPending = omega arith
 number-small (Differs k) = omega arith

@@ -3,15 +3,15 @@ use Prim.Native.Nat.{ℕ, _+_, _*_, _/_, _%_}
 use mathlib.Core.Bool.{Bool, cond}
 use lib.Dec.{eqb}
 use Rattle.answers.specs.declared.Answer.{Answer}
-use Rattle.answers.specs.declared.Answer.the-variants.{Done, NoSettings, WindowLength, NoRoom, MissingSample, EntryLength, OutOfRange, NothingPending, Differs, NoRelay}
+use Rattle.answers.specs.declared.Answer.the-variants.{Done, NoSettings, OtherWindowLength, NoRoom, MissingSample, OtherEntryLength, OutOfRange, NothingPending, Differs, NoRelay}
 
 abbrev pub number : Answer → ℕ
 number Done = 0
 number NoSettings = 1
-number WindowLength = 2
+number OtherWindowLength = 2
 number NoRoom = 3
 number (MissingSample at) = 4
-number EntryLength = 5
+number OtherEntryLength = 5
 number (OutOfRange at) = 6
 number NothingPending = 7
 number (Differs at) = 8
@@ -21,10 +21,10 @@ number NoRelay = 17
 abbrev pub place : Answer → ℕ
 place Done = 0
 place NoSettings = 0
-place WindowLength = 0
+place OtherWindowLength = 0
 place NoRoom = 0
 place (MissingSample at) = at
-place EntryLength = 0
+place OtherEntryLength = 0
 place (OutOfRange at) = at
 place NothingPending = 0
 place (Differs at) = at

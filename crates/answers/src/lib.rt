@@ -1,16 +1,16 @@
 // The numbers given back (document 01, "Numbers given back"): each answer by name, and the one number that C gets.
 ghost use mathlib.Core.Path.{_≡_};
 ghost use Prim.Native.Nat.{_<_};
-ghost use Rattle.answers.specs.Answers.{number, place, givenBack, isDone};
+ghost use Rattle.answers.specs.Answers.{number, place, givenBack, numberIn, placeIn, isDone};
 
 // Each answer of the table. A place is an index in a window, or an offset in a record.
 pub enum Answer {
     Done,
     NoSettings,
-    WindowLength,
+    OtherWindowLength,
     NoRoom,
     MissingSample(u16),
-    EntryLength,
+    OtherEntryLength,
     OutOfRange(u8),
     NothingPending,
     Differs(u8),
@@ -44,10 +44,10 @@ fn number(a: Answer) -> u64
     match a {
         Answer::Done => DONE,
         Answer::NoSettings => NO_SETTINGS,
-        Answer::WindowLength => OTHER_WINDOW_LENGTH,
+        Answer::OtherWindowLength => OTHER_WINDOW_LENGTH,
         Answer::NoRoom => NO_ROOM,
         Answer::MissingSample(_) => MISSING_SAMPLE,
-        Answer::EntryLength => OTHER_ENTRY_LENGTH,
+        Answer::OtherEntryLength => OTHER_ENTRY_LENGTH,
         Answer::OutOfRange(_) => OUT_OF_RANGE,
         Answer::NothingPending => NOTHING_PENDING,
         Answer::Differs(_) => DIFFERS,
@@ -62,10 +62,10 @@ fn place(a: Answer) -> u16
     match a {
         Answer::Done => 0,
         Answer::NoSettings => 0,
-        Answer::WindowLength => 0,
+        Answer::OtherWindowLength => 0,
         Answer::NoRoom => 0,
         Answer::MissingSample(at) => at,
-        Answer::EntryLength => 0,
+        Answer::OtherEntryLength => 0,
         Answer::OutOfRange(at) => at as u16,
         Answer::NothingPending => 0,
         Answer::Differs(at) => at as u16,
@@ -81,12 +81,26 @@ pub fn is_done(a: Answer) -> bool
 }
 
 // What a place counts in what C gets.
-const PLACE: u64 = 256;
+const PLACE_WEIGHT: u64 = 256;
 
 // What C gets: 256 times the place, plus the number.
 pub fn given_back(a: Answer) -> u64
     ensures { λ r. ⌜ r ≡ givenBack a ⌝ }
 {
     let at = place(a);
-    PLACE * (at as u64) + number(a)
+    PLACE_WEIGHT * (at as u64) + number(a)
+}
+
+// The number in what C gets.
+pub fn number_in(r: u64) -> u64
+    ensures { λ n. ⌜ n ≡ numberIn r ⌝ }
+{
+    r % PLACE_WEIGHT
+}
+
+// The place in it.
+pub fn place_in(r: u64) -> u64
+    ensures { λ at. ⌜ at ≡ placeIn r ⌝ }
+{
+    r / PLACE_WEIGHT
 }

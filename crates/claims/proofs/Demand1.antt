@@ -8,22 +8,22 @@ use lib.ListN.{length}
 use Rattle.answers.specs.declared.Answer.{Answer}
 use Rattle.answers.specs.declared.Answer.the-variants.{OutOfRange}
 use Rattle.answers.specs.Answers.{givenBack, isDone}
-use Rattle.settings.specs.Table.{table}
+use Rattle.settings.specs.Table.{settingsTable}
 use Rattle.settings.specs.Check.{checkedBy}
 use Rattle.entry.specs.Pair.{Pair, nothing}
-use Rattle.entry.specs.Log.{Entry, propose, confirm, Log, _▷_, Leads, from-fresh, by-propose, by-confirm}
-use Rattle.entry.proofs.History.{in-force-said-twice}
+use Rattle.entry.specs.Log.{Entry, propose, confirm, Log, _▷_, Leads, from-fresh, by-propose, by-confirm, SaidTwice}
+use Rattle.entry.proofs.History.{in-force-said-twice, said-twice-in-force}
 use Rattle.gorsepetal.specs.State.{stateLength, settingsOf}
-use Rattle.gorsepetal.specs.Calls.{verdict, Accepted}
-use Rattle.claims.specs.Demand1.{Call, proposing, confirming, reading-back, deciding, Reached, freshRelay, next, afterCalls, Demand1, History, fresh, proposed, confirmed, other, OverHistories}
+use Rattle.gorsepetal.specs.Calls.{verdict, GoodRecord}
+use Rattle.claims.specs.Demand1.{Call, proposing, confirming, reading-back, deciding, Logged, freshRelay, next, afterCalls, Demand1, History, fresh, proposed, confirmed, other, OverHistories}
 use Rattle.claims.proofs.Relay.{Left, propose-left, confirm-left}
 
 -- zero bytes are no good record: the table refuses them at 0
 pub blank : verdict nothing ≡ OutOfRange 0
-unfolding checkedBy table
+unfolding checkedBy settingsTable
 blank = refl
 
-not-accepted : Accepted nothing → ⊥
+not-accepted : GoodRecord nothing → ⊥
 not-accepted g = false≢true (ap isDone (sym blank ∙ g))
 
 -- where a history leads
@@ -45,16 +45,19 @@ led (confirmed {s = s} {e} {after} {n} h c) =
 led (other {l} h r k) = record { relay = r; leads = subst (Leads verdict l) (sym k) (led h .leads) }
 
 pub over-histories : OverHistories
-over-histories l s h g = in-force-said-twice verdict not-accepted (led h .leads) g
+over-histories l s r h = (
+  λ g. subst (λ (r : List ℕ). SaidTwice r l) (g .1) (in-force-said-twice verdict not-accepted (led h .leads) (rw (g .1) (g .2))),
+  λ t. let k = said-twice-in-force verdict not-accepted (led h .leads) t in (led h .relay, k .0, k .1),
+)
 
 -- every list of calls is a history
-history-next : (r : Reached) (c : Call) → History (r .log) (r .state) → History (next r c .log) (next r c .state)
+history-next : (r : Logged) (c : Call) → History (r .log) (r .state) → History (next r c .log) (next r c .state)
 history-next r (proposing e) h = proposed h (record { given = refl; state = refl })
 history-next r (confirming e) h = confirmed h (record { given = refl; state = refl })
 history-next r (reading-back out) h = h
 history-next r (deciding samples out) h = h
 
-history-after : (r : Reached) (cs : List Call) → History (r .log) (r .state) → History (afterCalls r cs .log) (afterCalls r cs .state)
+history-after : (r : Logged) (cs : List Call) → History (r .log) (r .state) → History (afterCalls r cs .log) (afterCalls r cs .state)
 history-after r [] h = h
 history-after r (c ∷ cs) h = history-after (next r c) cs (history-next r c h)
 
@@ -62,4 +65,4 @@ pub history-of : (cs : List Call) → History (afterCalls freshRelay cs .log) (a
 history-of cs = history-after freshRelay cs fresh
 
 pub demand-1 : Demand1
-demand-1 cs g = let r = afterCalls freshRelay cs in over-histories (r .log) (r .state) (history-of cs) g
+demand-1 cs r = let reached = afterCalls freshRelay cs in over-histories (reached .log) (reached .state) r (history-of cs)

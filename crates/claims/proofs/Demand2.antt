@@ -16,8 +16,8 @@ use Rattle.samples.specs.Window.{numbersOf}
 use Rattle.settings.specs.Fields.{ends, slope, pickup, reach, forwardLimit, reverseLimit}
 use Rattle.distance.specs.declared.direction.Direction.{Direction}
 use Rattle.distance.specs.declared.direction.Direction.the-variants as direction
-use Rattle.distance.specs.Sequence.{negative}
-use Rattle.distance.specs.Line.{replica}
+use Rattle.distance.specs.Sequence.{negativeSequence}
+use Rattle.distance.specs.Constants.{replica}
 use Rattle.distance.specs.Direction.{directionOf, directionNumber}
 use Rattle.distance.specs.declared.mho.Loop.{Loop}
 use Rattle.distance.specs.declared.mho.SixLoops.{SixLoops}
@@ -25,10 +25,10 @@ use Rattle.distance.specs.Mho.{asserts, loopBits}
 use Rattle.distance.proofs.Laws.{mho-rule, forward-rule, reverse-rule}
 use Rattle.differential.specs.Differential.{comparison, magnitude, operates, operatingBits}
 use Rattle.differential.proofs.Rule.{operates-rule}
-use Rattle.decision.specs.Decision.{voltages, currents, findings, isForward, decisionLength, decision}
+use Rattle.decision.specs.Decision.{voltages, currentsOfEnd1, findings, isForward, decisionLength, decision}
 use Rattle.gorsepetal.specs.State.{settingsOf}
 use Rattle.gorsepetal.proofs.Good.{in-range}
-use Rattle.claims.specs.Demand2.{phase, squareOf, restraintOf, phases, sixLoops, loops, Forward, Reverse, wordAt, Tells, Demand2}
+use Rattle.claims.specs.Demand2.{phaseCurrents, squareOf, restraintOf, phaseFacts, sixLoops, loopFacts, DirectionForward, wordAt, Tells, Demand2}
 use Rattle.claims.proofs.Decided.{in-force, at-front}
 
 -- ---- 1 or 0, and the trip rule
@@ -92,12 +92,12 @@ word-is n = omega arith
 
 module _ (s : List ℕ) (w : List ℤ) where
   abbrev pub operating : ℕ → Bool
-  operating p = operates (slope s) (pickup s) (comparison (phase s w p) (ends s))
+  operating p = operates (slope s) (pickup s) (comparison (phaseCurrents s w p) (ends s))
 
   abbrev pub operate : List Bool
   operate = operating 0 ∷ operating 1 ∷ operating 2 ∷ []
 
-  each-phase : Each operate (phases s w)
+  each-phase : Each operate (phaseFacts s w)
   each-phase = (operates-rule _ _ _, (operates-rule _ _ _, (operates-rule _ _ _, tt)))
 
   abbrev asserting : Loop → Bool
@@ -110,7 +110,7 @@ module _ (s : List ℕ) (w : List ℤ) where
   assert =
       asserting (six .ag) ∷ asserting (six .bg) ∷ asserting (six .cg) ∷ asserting (six .ab) ∷ asserting (six .bc) ∷ asserting (six .ca) ∷ []
 
-  each-loop : Each assert (loops s w)
+  each-loop : Each assert (loopFacts s w)
   each-loop = (mho-rule _ _ _, (mho-rule _ _ _, (mho-rule _ _ _, (mho-rule _ _ _, (mho-rule _ _ _, (mho-rule _ _ _, tt))))))
 
   restraint-word : (rest : List ℕ) (p : ℕ) → p < 3 → wordAt (decision s w ++ rest) (8 + 4 * p) ≡ restraintOf s w p
@@ -130,19 +130,19 @@ module _ (s : List ℕ) (w : List ℤ) where
   tells : (rest : List ℕ) → forwardLimit s <ℤ reverseLimit s → Tells s w (decision s w ++ rest)
   unfolding findings operatingBits loopBits magnitude
   tells rest order =
-      let i2 = negative (currents s w) in
-      let v2 = negative (voltages s w) in
+      let i2 = negativeSequence (currentsOfEnd1 s w) in
+      let v2 = negativeSequence (voltages s w) in
       let d = directionOf s v2 i2 in
       let forward = forward-rule s v2 i2 in
       let reverse = reverse-rule s v2 i2 order in
-      let ahead : Exactly (isForward d ≡ true) (Forward s w) = (λ t. forward .0 (forward-is d t), λ f. ap isForward (forward .1 f)) in
-      let trips = rule _ _ _ (any-of operate (phases s w) each-phase) ahead (any-of assert (loops s w) each-loop) in
+      let ahead : Exactly (isForward d ≡ true) (DirectionForward s w) = (λ t. forward .0 (forward-is d t), λ f. ap isForward (forward .1 f)) in
+      let trips = rule _ _ _ (any-of operate (phaseFacts s w) each-phase) ahead (any-of assert (loopFacts s w) each-loop) in
       record {
         trip = one _ trips;
         no-trip = nought _ trips;
-        phase-bits = bits-tell operate (phases s w) each-phase;
+        phase-bits = bits-tell operate (phaseFacts s w) each-phase;
         three-bits = omega (arith, most (operating 0), most (operating 1), most (operating 2));
-        loop-bits = bits-tell assert (loops s w) each-loop;
+        loop-bits = bits-tell assert (loopFacts s w) each-loop;
         six-bits = omega (arith, most (asserting (six .ag)), most (asserting (six .bg)), most (asserting (six .cg)), most (asserting (six .ab)), most (asserting (six .bc)), most (asserting (six .ca)));
         forward = (λ e. forward .0 (number-1 d e), λ f. ap directionNumber (forward .1 f));
         reverse = (λ e. reverse .0 (number-2 d e), λ f. ap directionNumber (reverse .1 f));

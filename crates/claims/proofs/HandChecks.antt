@@ -7,7 +7,7 @@ use Rattle.whole.proofs.Rows.{_&_}
 use Rattle.plane.specs.Plane.{plus, times, scaled, rounded, dot, squaredMagnitude}
 use Rattle.phasors.specs.Sums.{withSample, sumTo, phasorOf}
 use Rattle.phasors.specs.Grid.{total}
-use Rattle.settings.specs.Table.{table}
+use Rattle.settings.specs.Table.{settingsTable}
 use Rattle.settings.specs.Check.{checkedBy}
 use Rattle.distance.specs.Sequence.{sequence}
 use Rattle.distance.specs.Direction.{reachesPickup, torque, sideOf, directionOf}
@@ -18,7 +18,7 @@ use Rattle.claims.specs.HandChecks.{HandChecks}
 pub hand-checks : HandChecks
 unfolding roundBy rounded withSample sumTo phasorOf plus times scaled sequence
     floorRoot rootUp sumOf dot squaredMagnitude total square endRestraint restraint operates mho asserts
-    table checkedBy reachesPickup torque sideOf directionOf
+    settingsTable checkedBy reachesPickup torque sideOf directionOf
 hand-checks =
     -- P1 to P6
     refl & refl & refl & refl & refl & refl

@@ -2,7 +2,7 @@
 pub mod Bits
 pub mod One
 pub mod Relay
-pub mod Table
+pub mod GivenBack
 pub mod Demand1
 pub mod Settings
 pub mod Decided
@@ -10,3 +10,7 @@ pub mod Demand2
 pub mod Demand3
 pub mod WhichRule
 pub mod HandChecks
+pub mod Worked
+pub mod WrongRelays
+pub mod Underneath
+pub mod Reader

@@ -11,7 +11,7 @@ use Rattle.answers.specs.Answers.{givenBack}
 use Rattle.entry.specs.Pair.{Pair}
 use Rattle.entry.specs.Entry.{proposeAnswer, proposed, confirmAnswer, confirmed}
 use Rattle.entry.proofs.Pairs.{pair-again, with-pair-length}
-use Rattle.entry.proofs.Done.{Sized, proposed-sized, confirmed-sized}
+use Rattle.entry.proofs.Done.{FullPair, proposed-sized, confirmed-sized}
 use Rattle.gorsepetal.specs.State.{stateLength, settingsOf, withSettings}
 use Rattle.gorsepetal.specs.Calls.{verdict, standing, Proposed, Confirmed}
 
@@ -22,14 +22,14 @@ pub record Left (a : Answer) (p : Pair) (n : ℕ) (after : List ℕ) : Type 0 wh
   pub relay : length after ≡ stateLength
 
 module _ (s : List ℕ) (l : length s ≡ stateLength) where
-  pub sized : Sized (settingsOf s)
+  pub sized : FullPair (settingsOf s)
   sized =
       record {
         force = length-take-le 32 s (omega arith);
         pending = length-take-le 32 (drop 32 s) (simp length-drop (omega arith));
       }
 
-  left : (a : Answer) (p : Pair) (n : ℕ) (after : List ℕ) → Sized p → n ≡ givenBack a → after ≡ withSettings s p → Left a p n after
+  left : (a : Answer) (p : Pair) (n : ℕ) (after : List ℕ) → FullPair p → n ≡ givenBack a → after ≡ withSettings s p → Left a p n after
   left a p n after w g k =
       record {
         given = g;

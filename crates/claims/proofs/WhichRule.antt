@@ -1,18 +1,24 @@
--- A decide answered 0 found a good record in force, and demand 1 says how that came to be.
-use mathlib.Core.Path.{ap}
+-- A decide answered 0, or a read-back, found a good record in force, and demand 1 says how that came to be.
+use mathlib.Core.Path.{refl, sym, ap, subst, _∙_}
+use Prim.Native.Nat.{ℕ}
 use lib.ListN.{take, drop}
-use Rattle.decision.specs.Decision.{decisionLength}
+use Rattle.samples.specs.Window.{numbersOf}
+use Rattle.decision.specs.Decision.{decisionLength, decision}
 use Rattle.gorsepetal.specs.State.{settingsOf}
+use Rattle.gorsepetal.specs.Calls.{ReadBack, Decided}
 use Rattle.claims.specs.Demand1.{freshRelay, afterCalls}
-use Rattle.claims.specs.WhichRule.{WhichRule, WhichRuleOverHistories}
+use Rattle.claims.specs.WhichRule.{WhichRule, WhichRuleOverHistories, WhichRecord, WhichRecordOverHistories, SaidTwiceReadsBack, SaidTwiceDecides}
 use Rattle.claims.proofs.Demand1.{over-histories, history-of}
-use Rattle.claims.proofs.Decided.{in-force, at-front}
+use Rattle.claims.specs.GivenBack as row
+use Rattle.claims.proofs.Decided.{relay, in-force, at-front}
+use Rattle.claims.proofs.GivenBack.{read-back-answers, decide-answers}
+use Rattle.claims.proofs.Settings.{read-0, reads-what-is-in-force}
 
 pub which-rule-over-histories : WhichRuleOverHistories
 which-rule-over-histories l s b out after h c =
     record {
       rule = settingsOf s .force;
-      said-twice = over-histories l s h (in-force s b out after c);
+      said-twice = over-histories l s (settingsOf s .force) h .0 (relay s b out after c, refl, in-force s b out after c);
       decided = ap (take decisionLength) (at-front s b out after c);
       kept = ap (drop decisionLength) (at-front s b out after c);
     }
@@ -20,3 +26,30 @@ which-rule-over-histories l s b out after h c =
 pub which-rule : WhichRule
 which-rule cs b out after c =
     let r = afterCalls freshRelay cs in which-rule-over-histories (r .log) (r .state) b out after (history-of cs) c
+
+pub which-record-over-histories : WhichRecordOverHistories
+which-record-over-histories l s out after h b =
+    let r = reads-what-is-in-force s out after b in
+    let row = read-0 s out 0 (read-back-answers s out 0 after b 0 .0 refl) refl in
+    record { said-twice = over-histories l s _ h .0 (row .0, sym (r .0), rw (r .0) (row .1)); kept = r .1 }
+
+pub which-record : WhichRecord
+which-record cs out after b =
+    let r = afterCalls freshRelay cs in which-record-over-histories (r .log) (r .state) out after (history-of cs) b
+
+-- ---- and the other way
+
+pub said-twice-reads-back : SaidTwiceReadsBack
+said-twice-reads-back l s r out n after h said b room =
+    let f = over-histories l s r h .1 said in
+    let zero = read-back-answers s out n after b 0 .1 (row.ReadBackRow.done (f .0) (rw (f .1) (f .2)) room) in
+    let k = reads-what-is-in-force s out after (subst (λ (m : ℕ). ReadBack s out m after) zero b) in
+    (zero, k .0 ∙ f .1)
+
+pub said-twice-decides : SaidTwiceDecides
+said-twice-decides l s r b out n after h said c fits room none =
+    let f = over-histories l s r h .1 said in
+    let force = f .1 in
+    let zero = decide-answers s b out n after c 0 .1 (row.DecideRow.done (f .0) (rw force (f .2)) (rw force fits) room (rw force none)) in
+    let k = at-front s b out after (subst (λ (m : ℕ). Decided s b out m after) zero c) in
+    (zero, ap (take decisionLength) k ∙ ap (λ r. decision r (numbersOf b)) force)

@@ -9,61 +9,66 @@ use lib.IntN.{ℤ, pos}
 use lib.ListN.{replicate}
 use Rattle.claims.specs.Bits.{isSet}
 use Rattle.plane.specs.declared.Phasor.{Phasor}
-use Rattle.phasors.specs.Rate.{sixteen}
+use Rattle.decision.specs.Decision.{rateOf}
 use Rattle.phasors.specs.Grid.{exactCurrent}
 use Rattle.samples.specs.Window.{numbersOf}
-use Rattle.settings.specs.Record.{minus}
+use Rattle.settings.specs.Record.{negated}
 use Rattle.settings.specs.Fields.{ends, slope, pickup}
-use Rattle.settings.specs.Examples.{sample}
-use Rattle.differential.specs.Demand3.{NotBelow, Above}
+use Rattle.settings.specs.Examples.{exampleRecord}
+use Rattle.differential.specs.Demand3.{NotBelow, Above, band}
 use Rattle.gorsepetal.specs.State.{settingsOf}
 use Rattle.gorsepetal.specs.Calls.{Decided}
 use Rattle.claims.specs.Demand2.{byte, squareOf}
 
 -- A and B of each end
 abbrev pub sums : List ℕ → List ℤ → ℕ → ℕ → Phasor
-sums r w p = exactCurrent sixteen w (ends r) p
+sums r w p = exactCurrent (rateOf r) w (ends r) p
 
 -- "If a phase operates, 100(F + 1 + 196608Nm) > K L for every m."
 abbrev pub Demand3First : Type 0
 Demand3First =
     (s b out after : List ℕ) (p : ℕ) → p < 3 → Decided s b out 0 after → let r = settingsOf s .force in
-    isSet p (byte after 1) ≡ true → NotBelow 196608 (slope r) (ends r) (sums r (numbersOf b) p)
+    isSet p (byte after 1) ≡ true → NotBelow band (slope r) (ends r) (sums r (numbersOf b) p)
 
 -- "If s >= pickup² and for some m, 100F >= K H + 19660800Nm, it operates." And so it trips.
 abbrev pub Demand3Second : Type 0
 Demand3Second =
     (s b out after : List ℕ) (p : ℕ) → p < 3 → Decided s b out 0 after → let r = settingsOf s .force in
-    pickup r * pickup r ≤ squareOf r (numbersOf b) p → (m : ℕ) → 1 ≤ m → Above 196608 (slope r) (ends r) (sums r (numbersOf b) p) m
+    pickup r * pickup r ≤ squareOf r (numbersOf b) p → (m : ℕ) → 1 ≤ m → Above band (slope r) (ends r) (sums r (numbersOf b) p) m
     → (isSet p (byte after 1) ≡ true) × (byte after 0 ≡ 1)
 
 -- So a trip has its reason: a phase whose bit is set, which the first half allows; or a fault ahead in which a loop asserts.
 abbrev pub TripHasReason : Type 0
 TripHasReason =
     (s b out after : List ℕ) → Decided s b out 0 after → byte after 0 ≡ 1 → let r = settingsOf s .force in
-    ((p : ℕ) × (p < 3) × (isSet p (byte after 1) ≡ true) × NotBelow 196608 (slope r) (ends r) (sums r (numbersOf b) p))
+    ((p : ℕ) × (p < 3) × (isSet p (byte after 1) ≡ true) × NotBelow band (slope r) (ends r) (sums r (numbersOf b) p))
     ⊎ ((byte after 3 ≡ 1) × (byte after 2 ≡ 0 → ⊥))
 
 -- ---- neither half is empty, by two windows of two ends and the record of document 01's "Window program": slope 15, pickup 100
 
 -- a window in which phase a has one sample x at end 1 and y at end 2, both at n = 0
-abbrev pub window : ℤ → ℤ → List ℤ
-window x y = pos 0 ∷ pos 0 ∷ pos 0 ∷ x ∷ pos 0 ∷ pos 0 ∷ y ∷ pos 0 ∷ pos 0 ∷ replicate 135 (pos 0)
+abbrev pub windowWith : ℤ → ℤ → List ℤ
+windowWith x y = pos 0 ∷ pos 0 ∷ pos 0 ∷ x ∷ pos 0 ∷ pos 0 ∷ y ∷ pos 0 ∷ pos 0 ∷ replicate 135 (pos 0)
 
 -- 1000 counts flow in, and none out
 abbrev pub fault : List ℤ
-fault = window (pos 8000) (pos 0)
+fault = windowWith (pos 8000) (pos 0)
 
 -- what flows in flows out
 abbrev pub through : List ℤ
-through = window (pos 8000) (minus 8000)
+through = windowWith (pos 8000) (negated 8000)
 
 -- A relay that never trips contradicts the second half: of this window it says that there is a trip.
 abbrev pub FaultTrips : Type 0
 FaultTrips =
-    (s b out after : List ℕ) → settingsOf s .force ≡ sample → numbersOf b ≡ fault → Decided s b out 0 after → byte after 0 ≡ 1
+    (s b out after : List ℕ) → settingsOf s .force ≡ exampleRecord → numbersOf b ≡ fault → Decided s b out 0 after → byte after 0 ≡ 1
 
 -- One in which every phase always operates contradicts the first: of this window it says that phase a does not.
 abbrev pub ThroughDoesNot : Type 0
 ThroughDoesNot =
-    (s b out after : List ℕ) → settingsOf s .force ≡ sample → numbersOf b ≡ through → Decided s b out 0 after → isSet 0 (byte after 1) ≡ true → ⊥
+    (s b out after : List ℕ) → settingsOf s .force ≡ exampleRecord → numbersOf b ≡ through → Decided s b out 0 after → isSet 0 (byte after 1) ≡ true → ⊥
+
+-- One that always trips, by whatever reason: in this window no phase operates and no loop asserts.
+abbrev pub ThroughIsQuiet : Type 0
+ThroughIsQuiet =
+    (s b out after : List ℕ) → settingsOf s .force ≡ exampleRecord → numbersOf b ≡ through → Decided s b out 0 after → byte after 0 ≡ 0

@@ -9,20 +9,22 @@ use lib.IntN.{ℤ, pos}
 use lib.ListN.{length, getD}
 use Rattle.whole.specs.TwosComplement.{unsigned}
 use Rattle.plane.specs.declared.Phasor.{Phasor}
-use Rattle.phasors.specs.Rate.{cosine, cosines, sixteen}
+use Rattle.phasors.specs.Rate.{cosine, cosines}
 use Rattle.phasors.specs.Sums.{phasorOf}
 use Rattle.settings.specs.declared.Checked.the-variants.{Good}
-use Rattle.settings.specs.Record.{minus}
+use Rattle.settings.specs.Record.{negated}
+use Rattle.settings.specs.Table.{offsetOf, forwardLimitRow, negativeSequencePickupRow}
 use Rattle.settings.specs.Check.{checked}
-use Rattle.settings.specs.Fields.{forwardLimit, negativePickup}
-use Rattle.settings.specs.Examples.{sample, changed}
+use Rattle.settings.specs.Fields.{forwardLimit, negativeSequencePickup}
+use Rattle.settings.specs.Examples.{exampleRecord, changed}
 use Rattle.distance.specs.declared.direction.Direction.{Direction}
 use Rattle.distance.specs.declared.direction.Direction.the-variants.{None, Forward}
 use Rattle.distance.specs.declared.mho.Loop.{Loop}
-use Rattle.distance.specs.Sequence.{negative}
-use Rattle.distance.specs.Line.{angle}
+use Rattle.distance.specs.Sequence.{negativeSequence}
+use Rattle.distance.specs.Constants.{angle}
 use Rattle.distance.specs.Direction.{reachesPickup, directionOf}
 use Rattle.distance.specs.Mho.{asserts}
+use Rattle.decision.specs.Decision.{rateOf}
 use Rattle.differential.specs.Differential.{restraint, comparison, operates}
 
 -- ---- the kinds of check
@@ -35,7 +37,7 @@ pub data Check : Type 0 where
   -- the samples x[n] of a channel, and its phasor
   phasor-is : (x : ℕ → ℤ) (p : Complex) → Check
   -- Ia, Ib, Ic, and 3I2
-  negative-is : (ia ib ic i2 : Complex) → Check
+  negative-sequence-is : (ia ib ic i2 : Complex) → Check
   -- the end phasors, K, the pickup, and whether the phase operates
   phase-operates : (ends : List Complex) (K pickup : ℕ) (b : Bool) → Check
   -- the end phasors, and U
@@ -67,15 +69,15 @@ loop v vp i = record { v = phasor v; i = phasor i; vp = phasor vp }
 
 -- The settings record of document 01's "Window program" with another zf, and with another pickup of 3I2
 abbrev pub withLimit : ℤ → List ℕ
-withLimit zf = changed sample 20 (unsigned zf)
+withLimit zf = changed exampleRecord (offsetOf forwardLimitRow) (unsigned zf)
 
 abbrev pub withPickup : ℕ → List ℕ
-withPickup pickup = changed sample 24 pickup
+withPickup pickup = changed exampleRecord (offsetOf negativeSequencePickupRow) pickup
 
 -- A check with settings also says that their record is a good one and that its fields are those of the check.
 abbrev pub Holds : Check → Type 0
-Holds (phasor-is x p) = phasorOf sixteen x ≡ phasor p
-Holds (negative-is ia ib ic i2) = negative (record { a = phasor ia; b = phasor ib; c = phasor ic }) ≡ phasor i2
+Holds (phasor-is x p) = phasorOf (rateOf exampleRecord) x ≡ phasor p
+Holds (negative-sequence-is ia ib ic i2) = negativeSequence (record { a = phasor ia; b = phasor ib; c = phasor ic }) ≡ phasor i2
 Holds (phase-operates ends K pickup b) = operates K pickup (comparison (endPhasor ends) (length ends)) ≡ b
 Holds (restraint-is ends U) = restraint (endPhasor ends) (length ends) ≡ U
 Holds (loop-asserts v vp z i r b) = asserts (phasor z) r (loop v vp i) ≡ b
@@ -84,7 +86,7 @@ Holds (direction-is d zf i2 v2 side) =
     (directionOf (withLimit zf) (phasor v2) (phasor i2) ≡ side) × (checked (withLimit zf) ≡ Good)
     × (angle (withLimit zf) ≡ phasor d) × (forwardLimit (withLimit zf) ≡ zf)
 Holds (pickup-passes pickup i2 b) =
-    (reachesPickup (withPickup pickup) (phasor i2) ≡ b) × (checked (withPickup pickup) ≡ Good) × (negativePickup (withPickup pickup) ≡ pickup)
+    (reachesPickup (withPickup pickup) (phasor i2) ≡ b) × (checked (withPickup pickup) ≡ Good) × (negativeSequencePickup (withPickup pickup) ≡ pickup)
 
 abbrev pub AllHold : List Check → Type 0
 AllHold [] = Unit {0}
@@ -92,23 +94,23 @@ AllHold (c ∷ cs) = Holds c × AllHold cs
 
 -- ---- the table
 
-abbrev pub table : List Check
-table =
+abbrev pub handChecks : List Check
+handChecks =
     -- P1 to P6, one by one: a sample at n, the rest 0
     phasor-is (only (pos 8) 0) (pos 1, pos 0)
     ∷ phasor-is (only (pos 4) 0) (pos 1, pos 0)
     ∷ phasor-is (only (pos 3) 0) (pos 0, pos 0)
-    ∷ phasor-is (only (minus 4) 0) (pos 0, pos 0)
-    ∷ phasor-is (only (minus 5) 0) (minus 1, pos 0)
-    ∷ phasor-is (only (pos 8) 4) (pos 0, minus 1)
+    ∷ phasor-is (only (negated 4) 0) (pos 0, pos 0)
+    ∷ phasor-is (only (negated 5) 0) (negated 1, pos 0)
+    ∷ phasor-is (only (pos 8) 4) (pos 0, negated 1)
     -- P7: only Ib
-    ∷ negative-is (pos 0, pos 0) (pos 0, pos 1000) (pos 0, pos 0) (pos 866, minus 500)
+    ∷ negative-sequence-is (pos 0, pos 0) (pos 0, pos 1000) (pos 0, pos 0) (pos 866, negated 500)
     -- P8: end phasors 100 and -40, pickup 1. P9: the same at 50
-    ∷ phase-operates ((pos 100, pos 0) ∷ (minus 40, pos 0) ∷ []) 15 1 true
-    ∷ phase-operates ((pos 100, pos 0) ∷ (minus 40, pos 0) ∷ []) 50 1 false
+    ∷ phase-operates ((pos 100, pos 0) ∷ (negated 40, pos 0) ∷ []) 15 1 true
+    ∷ phase-operates ((pos 100, pos 0) ∷ (negated 40, pos 0) ∷ []) 50 1 false
     -- P10: 90 and -30: equal at 50
-    ∷ phase-operates ((pos 90, pos 0) ∷ (minus 30, pos 0) ∷ []) 50 1 false
-    ∷ phase-operates ((pos 90, pos 0) ∷ (minus 30, pos 0) ∷ []) 49 1 true
+    ∷ phase-operates ((pos 90, pos 0) ∷ (negated 30, pos 0) ∷ []) 50 1 false
+    ∷ phase-operates ((pos 90, pos 0) ∷ (negated 30, pos 0) ∷ []) 49 1 true
     -- P11: (1,1) twice: U, slopes 99 and 100, pickups 2 and 3
     ∷ restraint-is ((pos 1, pos 1) ∷ (pos 1, pos 1) ∷ []) 182
     ∷ phase-operates ((pos 1, pos 1) ∷ (pos 1, pos 1) ∷ []) 99 1 true
@@ -116,13 +118,13 @@ table =
     ∷ phase-operates ((pos 1, pos 1) ∷ (pos 1, pos 1) ∷ []) 99 2 true
     ∷ phase-operates ((pos 1, pos 1) ∷ (pos 1, pos 1) ∷ []) 99 3 false
     -- P12: reaches 500 and 499
-    ∷ loop-asserts (pos 500, pos 0) (pos 1000, pos 0) (pos 0, pos 1000) (pos 0, minus 1000) (pos 500) true
-    ∷ loop-asserts (pos 500, pos 0) (pos 1000, pos 0) (pos 0, pos 1000) (pos 0, minus 1000) (pos 499) false
+    ∷ loop-asserts (pos 500, pos 0) (pos 1000, pos 0) (pos 0, pos 1000) (pos 0, negated 1000) (pos 500) true
+    ∷ loop-asserts (pos 500, pos 0) (pos 1000, pos 0) (pos 0, pos 1000) (pos 0, negated 1000) (pos 499) false
     -- P13: I = (0,1000)
     ∷ loop-never (pos 500, pos 0) (pos 1000, pos 0) (pos 0, pos 1000) (pos 0, pos 1000)
     -- P14: zf = -499 and -500; pickups 100 and 101
-    ∷ direction-is (pos 0, pos 1000) (minus 499) (pos 100, pos 0) (pos 0, minus 50) Forward
-    ∷ direction-is (pos 0, pos 1000) (minus 500) (pos 100, pos 0) (pos 0, minus 50) None
+    ∷ direction-is (pos 0, pos 1000) (negated 499) (pos 100, pos 0) (pos 0, negated 50) Forward
+    ∷ direction-is (pos 0, pos 1000) (negated 500) (pos 100, pos 0) (pos 0, negated 50) None
     ∷ pickup-passes 100 (pos 100, pos 0) true
     ∷ pickup-passes 101 (pos 100, pos 0) false
     -- no mark: x[n] = C[n]
@@ -131,4 +133,4 @@ table =
 
 -- The single claim.
 abbrev pub HandChecks : Type 0
-HandChecks = AllHold table
+HandChecks = AllHold handChecks

@@ -1,6 +1,6 @@
 -- What a reader may rely on (document 01), over the calls' own claims in gorsepetal's `Calls`; and its hand checks.
 pub mod One
-pub mod Table
+pub mod GivenBack
 pub mod Settings
 pub mod Demand1
 pub mod Bits
@@ -8,3 +8,7 @@ pub mod Demand2
 pub mod Demand3
 pub mod WhichRule
 pub mod HandChecks
+pub mod Worked
+pub mod WrongRelays
+pub mod Underneath
+pub mod Reader

@@ -8,7 +8,10 @@ use Rattle.answers.specs.Answers.{number, place, givenBack, numberIn, placeIn}
 use Rattle.gorsepetal.specs.Calls.{Proposed, Confirmed, ReadBack, Decided, DecidedNumbers}
 
 -- A claim is about two lent slices, the number given back, and what the slice that may change holds after the call.
-abbrev pub OneResult : (List ℕ → List ℕ → ℕ → List ℕ → Type 0) → Type 0
+abbrev pub Claim : Type 1
+Claim = List ℕ → List ℕ → ℕ → List ℕ → Type 0
+
+abbrev pub OneResult : Claim → Type 0
 OneResult claim = (x y : List ℕ) (n n′ : ℕ) (after after′ : List ℕ) → claim x y n after → claim x y n′ after′ → (n ≡ n′) × (after ≡ after′)
 
 abbrev pub OneProposed : Type 0

@@ -1,12 +1,16 @@
--- "Which rule had answered?" Demands 1 and 2 joined: a decision was made by a record that somebody had said twice.
-use Prim.Native.Nat.{ℕ}
+-- "Which rule had answered?" Demands 1 and 2 joined: a decision was made by a record that somebody had said twice; and what is read back is
+-- such a record.
+use Prim.Native.Nat.{ℕ, _*_, _≤_}
 use mathlib.Core.Path.{_≡_}
 use mathlib.Core.List.{List}
-use lib.ListN.{take, drop}
-use Rattle.samples.specs.Window.{numbersOf}
+use lib.ListN.{length, take, drop}
+use Rattle.samples.specs.Window.{windowLength, numbersOf}
+use Rattle.samples.specs.Order.{NoneMissing}
+use Rattle.settings.specs.Fields.{ends}
+use Rattle.entry.specs.Pair.{recordLength}
 use Rattle.entry.specs.Log.{Log, SaidTwice}
 use Rattle.decision.specs.Decision.{decisionLength, decision}
-use Rattle.gorsepetal.specs.Calls.{Decided}
+use Rattle.gorsepetal.specs.Calls.{ReadBack, Decided}
 use Rattle.claims.specs.Demand1.{Call, freshRelay, afterCalls, History}
 
 -- The buffer after a decide holds document 01's decision, on the window's bytes b, for a record that by the log l was proposed and in the next
@@ -28,3 +32,29 @@ WhichRule =
 abbrev pub WhichRuleOverHistories : Type 0
 WhichRuleOverHistories =
     (l : Log) (s b out after : List ℕ) → History l s → Decided s b out 0 after → ByARecordSaidTwice l b out after
+
+-- The buffer after a read-back holds a record that by the log l was said twice, and its later bytes stayed.
+pub record HoldsARecordSaidTwice (l : Log) (out after : List ℕ) : Type 0 where
+  pub said-twice : SaidTwice (take recordLength after) l
+  pub kept : drop recordLength after ≡ drop recordLength out
+
+-- In every list of calls to one relay, fresh at the start, each read-back answered 0 wrote such a record.
+abbrev pub WhichRecord : Type 0
+WhichRecord =
+    (cs : List Call) (out after : List ℕ) → ReadBack (afterCalls freshRelay cs .state) out 0 after
+    → HoldsARecordSaidTwice (afterCalls freshRelay cs .log) out after
+
+abbrev pub WhichRecordOverHistories : Type 0
+WhichRecordOverHistories = (l : Log) (s out after : List ℕ) → History l s → ReadBack s out 0 after → HoldsARecordSaidTwice l out after
+
+-- And the other way: a record that the log shows said twice is what is read back, and what decides, wherever the call itself is a good one.
+abbrev pub SaidTwiceReadsBack : Type 0
+SaidTwiceReadsBack =
+    (l : Log) (s r out : List ℕ) (n : ℕ) (after : List ℕ) → History l s → SaidTwice r l → ReadBack s out n after → recordLength ≤ length out
+    → (n ≡ 0) × (take recordLength after ≡ r)
+
+abbrev pub SaidTwiceDecides : Type 0
+SaidTwiceDecides =
+    (l : Log) (s r b out : List ℕ) (n : ℕ) (after : List ℕ) → History l s → SaidTwice r l → Decided s b out n after
+    → length b ≡ 2 * windowLength (ends r) → decisionLength ≤ length out → NoneMissing (numbersOf b) (windowLength (ends r))
+    → (n ≡ 0) × (take decisionLength after ≡ decision r (numbersOf b))

@@ -5,7 +5,7 @@ use mathlib.Core.List.{List}
 use borrow.Author.Tests.{eq-eqb, ne-eqb, le-leb, lt-leb}
 use lib.IntN.{ℤ}
 use lib.ListN.{length}
-use Rattle.answers.specs.declared.Answer.the-variants.{Done, WindowLength, NoRoom, MissingSample}
+use Rattle.answers.specs.declared.Answer.the-variants.{Done, OtherWindowLength, NoRoom, MissingSample}
 use Rattle.lent.specs.Lent.{over}
 use Rattle.samples.specs.declared.Found.{Found}
 use Rattle.samples.specs.declared.Found.the-variants.{Nothing, At}
@@ -39,7 +39,7 @@ module _ (phases loops : ℕ) (d : Direction) where
 
 -- n is how many numbers the window should have
 module _ {s : List ℕ} {w : List ℤ} {out after : List ℕ} {n : ℕ} (h : n ≡ windowLength (ends s)) where
-  pub decide-2 : (length w ≡ n → ⊥) → after ≡ out → Decided s w out WindowLength after
+  pub decide-2 : (length w ≡ n → ⊥) → after ≡ out → Decided s w out OtherWindowLength after
   decide-2 l k = record { answer = rw (← h, ne-eqb (length w) n l); buffer = k }
 
   module _ (l : length w ≡ n) where

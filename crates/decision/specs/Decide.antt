@@ -8,7 +8,7 @@ use lib.Dec.{eqb, leb}
 use lib.IntN.{ℤ}
 use lib.ListN.{length}
 use Rattle.answers.specs.declared.Answer.{Answer}
-use Rattle.answers.specs.declared.Answer.the-variants.{Done, WindowLength, NoRoom, MissingSample}
+use Rattle.answers.specs.declared.Answer.the-variants.{Done, OtherWindowLength, NoRoom, MissingSample}
 use Rattle.answers.specs.Answers.{ifDone}
 use Rattle.lent.specs.Lent.{over}
 use Rattle.samples.specs.declared.Found.{Found}
@@ -24,7 +24,7 @@ ofFound (At k) = MissingSample k
 
 -- "Decide checks 1, 2, 3, 4", here from 2 on. Refusal 2: a window of another length, where it does not fit. Refusal 3: room below 32 bytes.
 abbrev pub windowAnswer : Bool → List ℤ → List ℕ → Answer
-windowAnswer fits w out = cond fits (cond (leb decisionLength (length out)) (ofFound (firstMissing w)) NoRoom) WindowLength
+windowAnswer fits w out = cond fits (cond (leb decisionLength (length out)) (ofFound (firstMissing w)) NoRoom) OtherWindowLength
 
 -- "It is written at the front of the lent buffer; later bytes stay." No refusal writes.
 abbrev pub written : Answer → List ℕ → List ℤ → List ℕ → List ℕ

@@ -6,13 +6,13 @@ use mathlib.Core.Bool.{Bool, true, false, not, cond, _&&_, _||_}
 use lib.Dec.{eqb}
 use lib.IntN.{ℤ, pos}
 use Rattle.plane.specs.declared.Phases.{Phases}
-use Rattle.phasors.specs.Rate.{sixteen}
+use Rattle.phasors.specs.Rate.{Rate, sixteen}
 use Rattle.phasors.specs.Grid.{voltagesOf, localCurrents, current}
 use Rattle.settings.specs.Fields.{ends, slope, pickup, reach}
 use Rattle.distance.specs.declared.direction.Direction.{Direction}
 use Rattle.distance.specs.declared.direction.Direction.the-variants.{None, Forward, Reverse}
-use Rattle.distance.specs.Sequence.{negative}
-use Rattle.distance.specs.Line.{replica, compensation}
+use Rattle.distance.specs.Sequence.{negativeSequence}
+use Rattle.distance.specs.Constants.{replica, compensation}
 use Rattle.distance.specs.Direction.{directionOf, directionNumber}
 use Rattle.distance.specs.Mho.{loopsOf, loopBits}
 use Rattle.differential.specs.declared.Comparisons.{Comparisons}
@@ -21,33 +21,37 @@ use Rattle.decision.specs.declared.Findings.{Findings}
 
 -- ---- what is found in a window
 
+-- How a cycle is measured, by the record: here always with sixteen samples.
+abbrev pub rateOf : List ℕ → Rate
+rateOf s = sixteen
+
 -- Va, Vb, Vc
 abbrev pub voltages : List ℕ → List ℤ → Phases
-voltages s w = voltagesOf sixteen w (ends s)
+voltages s w = voltagesOf (rateOf s) w (ends s)
 
 -- Ia, Ib, Ic: "Only end 1 is used"
-abbrev pub currents : List ℕ → List ℤ → Phases
-currents s w = localCurrents sixteen w (ends s)
+abbrev pub currentsOfEnd1 : List ℕ → List ℤ → Phases
+currentsOfEnd1 s w = localCurrents (rateOf s) w (ends s)
 
 -- s and U of each phase, over all ends
-abbrev pub line : List ℕ → List ℤ → Comparisons
-line s w = comparisons (current sixteen w (ends s)) (ends s)
+abbrev pub comparisonsOf : List ℕ → List ℤ → Comparisons
+comparisonsOf s w = comparisons (current (rateOf s) w (ends s)) (ends s)
 
 -- the loops that assert, from the voltages and the currents of end 1, at the reach r
-abbrev pub loopsAt : List ℕ → Phases → Phases → ℕ
-loopsAt s v i = loopBits (replica s) (pos (reach s)) (loopsOf (compensation s) v i)
+abbrev pub assertingBits : List ℕ → Phases → Phases → ℕ
+assertingBits s v i = loopBits (replica s) (pos (reach s)) (loopsOf (compensation s) v i)
 
 -- the direction, from 3V2 and 3I2
 abbrev pub directionAt : List ℕ → Phases → Phases → Direction
-directionAt s v i = directionOf s (negative v) (negative i)
+directionAt s v i = directionOf s (negativeSequence v) (negativeSequence i)
 
 unfoldable pub findings : List ℕ → List ℤ → Findings
 findings s w =
     record {
-      phases = operatingBits (slope s) (pickup s) (line s w);
-      loops = loopsAt s (voltages s w) (currents s w);
-      direction = directionAt s (voltages s w) (currents s w);
-      line = line s w;
+      operating = operatingBits (slope s) (pickup s) (comparisonsOf s w);
+      asserting = assertingBits s (voltages s w) (currentsOfEnd1 s w);
+      direction = directionAt s (voltages s w) (currentsOfEnd1 s w);
+      comparisons = comparisonsOf s w;
     }
 
 -- ---- the trip rule
@@ -63,7 +67,7 @@ isForward Reverse = false
 
 -- "1 if any phase operates, or direction is forward and any loop asserts; else 0"
 abbrev pub trip : ℕ → ℕ → Direction → ℕ
-trip phases loops direction = cond (any phases || (isForward direction && any loops)) 1 0
+trip operating asserting direction = cond (any operating || (isForward direction && any asserting)) 1 0
 
 -- ---- the bytes
 
@@ -78,9 +82,9 @@ word n = n / 16777216 ∷ n / 65536 % 256 ∷ n / 256 % 256 ∷ n % 256 ∷ []
 -- bytes 0 to 3, "4 to 7 zero", "U of a, b, c", and "floor of the root of 4096 s, for a, b, c"
 abbrev pub decisionBytes : Findings → List ℕ
 decisionBytes f =
-    trip (f .phases) (f .loops) (f .direction) ∷ f .phases ∷ f .loops ∷ directionNumber (f .direction) ∷ 0 ∷ 0 ∷ 0 ∷ 0
-    ∷ word (f .line .a .restraint) ++ word (f .line .b .restraint) ++ word (f .line .c .restraint)
-    ++ word (magnitude (f .line .a)) ++ word (magnitude (f .line .b)) ++ word (magnitude (f .line .c))
+    trip (f .operating) (f .asserting) (f .direction) ∷ f .operating ∷ f .asserting ∷ directionNumber (f .direction) ∷ 0 ∷ 0 ∷ 0 ∷ 0
+    ∷ word (f .comparisons .a .restraint) ++ word (f .comparisons .b .restraint) ++ word (f .comparisons .c .restraint)
+    ++ word (magnitude (f .comparisons .a)) ++ word (magnitude (f .comparisons .b)) ++ word (magnitude (f .comparisons .c))
 
 -- the decision on a window
 abbrev pub decision : List ℕ → List ℤ → List ℕ

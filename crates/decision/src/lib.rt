@@ -4,12 +4,12 @@ ghost use Prim.Native.Nat.{_+_, _<_, _≤_, _^_};
 ghost use mathlib.Core.List.{_∷_};
 ghost use lib.ListN.{length, replicate};
 ghost use Rattle.lent.specs.Lent.{over};
-ghost use Rattle.plane.specs.Plane.{AllInside, phasorSize};
+ghost use Rattle.plane.specs.Sizes.{AllInside, phasorSize};
 ghost use Rattle.samples.specs.Window.{windowLength, firstMissing};
 ghost use Rattle.settings.specs.Fields.{Ranges, ends};
-ghost use Rattle.differential.specs.Differential.{AllSized};
+ghost use Rattle.differential.specs.Sizes.{AllSized};
 ghost use Rattle.decision.specs.Decide.{Decided};
-ghost use Rattle.decision.specs.Decision.{loopsAt, directionAt, findings, trip, word, decisionBytes, decision};
+ghost use Rattle.decision.specs.Decision.{assertingBits, directionAt, findings, trip, word, decisionBytes, decision};
 use answers::Answer;
 use differential::Comparisons;
 use distance::direction::Direction;
@@ -27,13 +27,13 @@ const NO_TRIP: u8 = 0;
 // What is found in a window.
 pub struct Findings {
     // the phases that operate: a 1, b 2, c 4
-    pub phases: u8,
+    pub operating: u8,
     // the loops that assert: AG 1, BG 2, CG 4, AB 8, BC 16, CA 32
-    pub loops: u8,
+    pub asserting: u8,
     // which way the fault lies
     pub direction: Direction,
     // what is compared in each phase
-    pub line: Comparisons,
+    pub comparisons: Comparisons,
 }
 
 // How many numbers a window has, by a good settings record.
@@ -45,12 +45,12 @@ pub fn window_length(s: &[u8]) -> usize
 }
 
 // The loops that assert at the reach in force, from the voltages and the currents of end 1.
-fn loops(s: &[u8], v: Phases, i: Phases) -> u8
+fn asserting_bits(s: &[u8], v: Phases, i: Phases) -> u8
     requires { ⌜ Ranges (now s) × AllInside phasorSize v × AllInside phasorSize i ⌝ }
-    ensures { λ r. ⌜ r ≡ loopsAt (now (s .entry)) v i ⌝ }
+    ensures { λ r. ⌜ r ≡ assertingBits (now (s .entry)) v i ⌝ }
 {
     let reach = settings::fields::reach(s);
-    distance::mho::bits_at(s, reach, distance::mho::loops(s, v, i))
+    distance::mho::loop_bits(s, reach, distance::mho::loops(s, v, i))
 }
 
 // The direction of a fault, from the same.
@@ -58,41 +58,41 @@ fn direction(s: &[u8], v: Phases, i: Phases) -> Direction
     requires { ⌜ Ranges (now s) × AllInside phasorSize v × AllInside phasorSize i ⌝ }
     ensures { λ r. ⌜ r ≡ directionAt (now (s .entry)) v i ⌝ }
 {
-    let v2 = distance::sequence::negative(v);
-    let i2 = distance::sequence::negative(i);
+    let v2 = distance::sequence::negative_sequence(v);
+    let i2 = distance::sequence::negative_sequence(i);
     distance::direction::of_fault(s, v2, i2)
 }
 
 // What is found in a window of the right length, by a good settings record.
-fn found(s: &[u8], window: &[i16]) -> Findings
+fn findings_in(s: &[u8], window: &[i16]) -> Findings
     requires { ⌜ Ranges (now s) × (length (now window) ≡ windowLength (ends (now s))) ⌝ }
-    ensures { λ r. ⌜ (r ≡ findings (now (s .entry)) (now (window .entry))) × AllSized (r .line) ⌝ }
+    ensures { λ r. ⌜ (r ≡ findings (now (s .entry)) (now (window .entry))) × AllSized (r .comparisons) ⌝ }
 {
     let ends = settings::fields::ends(s) as usize;
     let v = phasors::voltages(window, ends);
     let grid = phasors::currents(window, ends);
     let i = phasors::local(grid);
-    let line = differential::of_line(grid, ends);
-    let phases = differential::bits(s, line);
-    let loops = loops(s, v, i);
+    let comparisons = differential::of_phases(grid, ends);
+    let operating = differential::operating_bits(s, comparisons);
+    let asserting = asserting_bits(s, v, i);
     let direction = direction(s, v, i);
     Findings {
-        phases,
-        loops,
+        operating,
+        asserting,
         direction,
-        line,
+        comparisons,
     }
 }
 
 // The trip rule.
-fn trip(phases: u8, loops: u8, direction: Direction) -> u8
-    ensures { λ r. ⌜ r ≡ trip phases loops direction ⌝ }
+fn trip(operating: u8, asserting: u8, direction: Direction) -> u8
+    ensures { λ r. ⌜ r ≡ trip operating asserting direction ⌝ }
 {
-    if phases != 0 {
+    if operating != 0 {
         return TRIP;
     }
     match direction {
-        Direction::Forward => if loops != 0 { TRIP } else { NO_TRIP },
+        Direction::Forward => if asserting != 0 { TRIP } else { NO_TRIP },
         Direction::None => NO_TRIP,
         Direction::Reverse => NO_TRIP,
     }
@@ -112,13 +112,13 @@ fn word(n: u64) -> [u8; 4]
 }
 
 // A decision record with its first four bytes, and zeros.
-fn front(trip: u8, phases: u8, loops: u8, direction: u8) -> [u8; LENGTH]
-    ensures { λ r. ⌜ r ≡ trip ∷ phases ∷ loops ∷ direction ∷ replicate 28 0 ⌝ }
+fn front(trip: u8, operating: u8, asserting: u8, direction: u8) -> [u8; LENGTH]
+    ensures { λ r. ⌜ r ≡ trip ∷ operating ∷ asserting ∷ direction ∷ replicate 28 0 ⌝ }
 {
     let mut r = [0u8; LENGTH];
     r[0] = trip;
-    r[1] = phases;
-    r[2] = loops;
+    r[1] = operating;
+    r[2] = asserting;
     r[3] = direction;
     r
 }
@@ -136,23 +136,23 @@ fn with_word(r: [u8; LENGTH], at: usize, n: u64) -> [u8; LENGTH]
 
 // The decision record of what was found.
 fn bytes(f: Findings) -> [u8; LENGTH]
-    requires { ⌜ AllSized (f .line) ⌝ }
+    requires { ⌜ AllSized (f .comparisons) ⌝ }
     ensures { λ r. ⌜ r ≡ decisionBytes f ⌝ }
 {
     let direction = f.direction;
-    let line = f.line;
+    let comparisons = f.comparisons;
     let r = front(
-        trip(f.phases, f.loops, direction),
-        f.phases,
-        f.loops,
+        trip(f.operating, f.asserting, direction),
+        f.operating,
+        f.asserting,
         distance::direction::number(direction),
     );
-    let r = with_word(r, 8, line.a.restraint);
-    let r = with_word(r, 12, line.b.restraint);
-    let r = with_word(r, 16, line.c.restraint);
-    let r = with_word(r, 20, differential::magnitude(line.a));
-    let r = with_word(r, 24, differential::magnitude(line.b));
-    with_word(r, 28, differential::magnitude(line.c))
+    let r = with_word(r, 8, comparisons.a.restraint);
+    let r = with_word(r, 12, comparisons.b.restraint);
+    let r = with_word(r, 16, comparisons.c.restraint);
+    let r = with_word(r, 20, differential::magnitude(comparisons.a));
+    let r = with_word(r, 24, differential::magnitude(comparisons.b));
+    with_word(r, 28, differential::magnitude(comparisons.c))
 }
 
 // The decision on a window of the right length, by a good settings record.
@@ -160,7 +160,7 @@ fn decision(s: &[u8], window: &[i16]) -> [u8; LENGTH]
     requires { ⌜ Ranges (now s) × (length (now window) ≡ windowLength (ends (now s))) ⌝ }
     ensures { λ r. ⌜ r ≡ decision (now (s .entry)) (now (window .entry)) ⌝ }
 {
-    bytes(found(s, window))
+    bytes(findings_in(s, window))
 }
 
 // The first missing number of a window of the right length.
@@ -178,7 +178,7 @@ pub fn decide(s: &[u8], window: &[i16], out: &mut [u8]) -> Answer
     ensures { λ a. ⌜ Decided (now (s .entry)) (now (window .entry)) (now (out .entry)) a (now (out .exit)) ⌝ }
 {
     if window.len() != window_length(s) {
-        return Answer::WindowLength;
+        return Answer::OtherWindowLength;
     }
     if out.len() < LENGTH {
         return Answer::NoRoom;

@@ -6,7 +6,8 @@ use native.Mathlib.Omega.{arith}
 use lib.IntN.{pos}
 use Rattle.whole.specs.Sum.{sumOf}
 use Rattle.plane.specs.declared.Phasor.{Phasor}
-use Rattle.plane.specs.Plane.{NearTo, Long, minus, scaled}
+use Rattle.plane.specs.Plane.{NearTo, minus, scaled}
+use Rattle.plane.specs.Sizes.{Long}
 use Rattle.phasors.specs.Grid.{total}
 use Rattle.phasors.proofs.Totals.{long-total, total-scaled, total-minus}
 use Rattle.differential.specs.Differential.{restraint}

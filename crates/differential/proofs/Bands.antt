@@ -6,7 +6,7 @@ use native.Mathlib.Omega.{arith, by-contra}
 use lib.Dec.{T, ltb, ltb→lt}
 use Rattle.phasors.specs.Rate.{Rate, sixteen}
 use Rattle.phasors.proofs.Weights.{phasor-near}
-use Rattle.differential.specs.Demand3.{FirstHalf, SecondHalf, OfWindows, oneAndAHalf, Demand3First, Demand3Second}
+use Rattle.differential.specs.Demand3.{FirstHalf, SecondHalf, OfWindows, oneAndAHalf, FirstAtSixteen, SecondAtSixteen}
 use Rattle.differential.proofs.Demand3.{Room, first-half, second-half}
 
 -- of the sixty-fourths of a count 46 will do for the corner, which is 45.3 of them: with the one for the root it is 93, and one and a half
@@ -41,11 +41,11 @@ module _ (rate : Rate) (above : T (ltb 0 (rate .divisor))) (even : rate .divisor
 one-and-a-half : oneAndAHalf (sixteen .divisor) ≡ 196608
 one-and-a-half = refl
 
-pub demand-3-first : Demand3First
-demand-3-first = first-at sixteen tt (forty-six 131072 refl (omega arith))
+pub first-at-sixteen : FirstAtSixteen
+first-at-sixteen = first-at sixteen tt (forty-six 131072 refl (omega arith))
 
-pub demand-3-second : Demand3Second
-demand-3-second = second-at sixteen tt (forty-six 131072 {w = 196608} refl (omega arith))
+pub second-at-sixteen : SecondAtSixteen
+second-at-sixteen = second-at sixteen tt (forty-six 131072 {w = 196608} refl (omega arith))
 
 -- ---- how much of the band the argument uses
 

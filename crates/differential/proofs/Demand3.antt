@@ -13,7 +13,8 @@ use Rattle.whole.proofs.Roots.{sq-lt}
 use Rattle.whole.proofs.Order.{le-ℤ, lt-ℤ, le-ℕ, lt-ℕ}
 use Rattle.plane.proofs.Triangle.{len-add, len-neg, len-scale, len-root}
 use Rattle.plane.specs.declared.Phasor.{Phasor}
-use Rattle.plane.specs.Plane.{NearTo, Long, minus, scaled, dot, squared}
+use Rattle.plane.specs.Plane.{NearTo, minus, scaled, dot, squared}
+use Rattle.plane.specs.Sizes.{Long}
 use Rattle.plane.proofs.Laws.{squared-magnitude-is}
 use Rattle.phasors.specs.Grid.{total}
 use Rattle.differential.specs.Differential.{square, restraint, comparison}

@@ -26,5 +26,5 @@ module _ {rate : Rate} {w : List ℤ} {ends : ℕ} {g : List (List Phasor)} (h :
       let u = sum-same (λ e. endRestraint (cell g p e)) (λ e. endRestraint (current rate w ends p e)) ends (λ e k. ap endRestraint (h .measured p e l k)) in
       λ i. record { square = s i; restraint = u i }
 
-  pub filled-line : comparisons (cell g) ends ≡ comparisons (current rate w ends) ends
-  filled-line = λ i. record { a = filled-phase 0 (omega arith) i; b = filled-phase 1 (omega arith) i; c = filled-phase 2 (omega arith) i }
+  pub filled-comparisons : comparisons (cell g) ends ≡ comparisons (current rate w ends) ends
+  filled-comparisons = λ i. record { a = filled-phase 0 (omega arith) i; b = filled-phase 1 (omega arith) i; c = filled-phase 2 (omega arith) i }

@@ -13,7 +13,8 @@ use Rattle.whole.proofs.Certificate.{quo, le!, g-le, g-eq, _⊞_}
 use Rattle.whole.proofs.Order.{le-ℕ}
 use Rattle.whole.proofs.Roots.{sq-le, floorRoot-is, rootUp-is}
 use Rattle.plane.specs.declared.Phasor.{Phasor}
-use Rattle.plane.specs.Plane.{Long, scaled, dot, squaredMagnitude}
+use Rattle.plane.specs.Plane.{scaled, dot, squaredMagnitude}
+use Rattle.plane.specs.Sizes.{Long}
 use Rattle.plane.proofs.Laws.{squared-magnitude-is, squared-magnitude-zero}
 use Rattle.phasors.specs.Grid.{total, current}
 use Rattle.phasors.proofs.Totals.{long-total, total-scaled}
@@ -53,7 +54,7 @@ end-never-too-small : (i : Phasor) (m : ℕ) → floorRoot (4096 * (m * m * squa
 unfolding endRestraint
 end-never-too-small i m =
     let q = squaredMagnitude i in
-    let up = mul-le-mul (le-refl (m * m)) (rootUp-is (4096 * q) .reach) in
+    let up = mul-le-mul (le-refl (m * m)) (rootUp-is (4096 * q) .enough) in
     sq-le _ _ (omega (arith, floorRoot-is (4096 * (m * m * q)) .low, up))
 
 pub never-too-small : NeverTooSmall

@@ -14,7 +14,8 @@ use Rattle.whole.specs.Round.{Near}
 use Rattle.whole.specs.Root.{rootUp}
 use Rattle.whole.proofs.Roots.{floorRoot-is, rootUp-is}
 use Rattle.plane.specs.declared.Phasor.{Phasor}
-use Rattle.plane.specs.Plane.{NearTo, Long, minus, scaled, dot, squared, squaredMagnitude}
+use Rattle.plane.specs.Plane.{NearTo, minus, scaled, dot, squared, squaredMagnitude}
+use Rattle.plane.specs.Sizes.{Long}
 use Rattle.plane.proofs.Laws.{squared-magnitude-is}
 use Rattle.differential.specs.Differential.{endRestraint}
 use Rattle.differential.specs.Demand3.{exactMagnitude}
@@ -23,7 +24,7 @@ use Rattle.differential.specs.Demand3.{exactMagnitude}
 
 end-reaches : (i : Phasor) → (pos 4096 *ℤ squared i) ≤ℤ (pos (endRestraint i) *ℤ pos (endRestraint i))
 unfolding endRestraint
-end-reaches i = rw (sym (squared-magnitude-is i)) (le-ℤ (rootUp-is (4096 * squaredMagnitude i) .reach))
+end-reaches i = rw (sym (squared-magnitude-is i)) (le-ℤ (rootUp-is (4096 * squaredMagnitude i) .enough))
 
 -- 64 times a phasor is at most as long as what it adds to the restraint
 pub end-long : (i : Phasor) → Long (scaled (pos 64) i) (endRestraint i)

@@ -11,14 +11,14 @@ use Rattle.differential.specs.Differential.{square, endRestraint, restra
 use Rattle.differential.specs.PaperMill.{ends, PaperMill}
 use Rattle.differential.proofs.Rule.{operates-rule}
 
-compared : comparison ends 2 ≡ record { square = 3600; restraint = 8960 }
+comparison-is : comparison ends 2 ≡ record { square = 3600; restraint = 8960 }
 unfolding floorRoot rootUp sumOf plus dot squaredMagnitude total square endRestraint restraint
-compared = refl
+comparison-is = refl
 
 pub paper-mill : PaperMill
 paper-mill K =
     let rule = operates-rule K 1 (record { square = 3600; restraint = 8960 }) in
-    rw compared (
+    rw comparison-is (
       (λ e. by-contra K 42 (λ more. let above : 43 ≤ K = omega arith in omega (arith, rule .0 e .1, mul-le-mul above above))),
       (λ most. rule .1 (omega arith, omega (arith, mul-le-mul most most))),
     )

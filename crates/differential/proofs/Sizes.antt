@@ -5,10 +5,12 @@ use native.Mathlib.Omega.{arith}
 use Rattle.whole.proofs.Roots.{sq-le, floorRoot-is, rootUp-is}
 use Rattle.whole.proofs.Sums.{sum-next}
 use Rattle.plane.specs.declared.Phasor.{Phasor}
-use Rattle.plane.specs.Plane.{Inside, phasorSize, squaredMagnitude}
+use Rattle.plane.specs.Plane.{squaredMagnitude}
+use Rattle.plane.specs.Sizes.{Inside, phasorSize}
 use Rattle.plane.proofs.Laws.{squared-magnitude-most}
 use Rattle.differential.specs.declared.Comparison.{Comparison}
-use Rattle.differential.specs.Differential.{Sized, endRestraint, endMost, restraint, restraintMost, magnitude}
+use Rattle.differential.specs.Differential.{endRestraint, restraint, magnitude}
+use Rattle.differential.specs.Sizes.{Sized, endMost, restraintMost}
 
 pub end-most : {i : Phasor} → Inside phasorSize i → endRestraint i ≤ endMost
 unfolding endRestraint

@@ -12,9 +12,9 @@ use Rattle.differential.specs.Differential.{square, endRestraint, restra
 use Rattle.differential.specs.Demand3.{exactMagnitude, L}
 use Rattle.differential.specs.Named.{phasors, NamedWindow, BandIsUsed, OneCountIsFalse}
 
-compared : comparison phasors 6 ≡ record { square = 32; restraint = 363 }
+comparison-is : comparison phasors 6 ≡ record { square = 32; restraint = 363 }
 unfolding floorRoot rootUp roundBy sumOf plus rounded dot squaredMagnitude withSample sumTo phasorOf total square endRestraint restraint
-compared = refl
+comparison-is = refl
 
 -- 40960000 · 32 = 1310720000 is above (99 · 363)² = 1291467969
 at-slope-99 : operates 99 1 (record { square = 32; restraint = 363 }) ≡ true
@@ -25,8 +25,8 @@ pub named-window : NamedWindow
 unfolding floorRoot sumOf plus dot squaredMagnitude withSample sumTo total exactMagnitude L
 named-window = record {
   six-ends = refl;
-  compared = compared;
-  operating = ap (operates 99 1) compared ∙ at-slope-99;
+  comparison-is = comparison-is;
+  operating = ap (operates 99 1) comparison-is ∙ at-slope-99;
   restrained = refl;
   differing = refl;
 }

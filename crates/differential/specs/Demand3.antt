@@ -71,8 +71,11 @@ abbrev pub oneAndAHalf : ℕ → ℕ
 oneAndAHalf d = d + d / 2
 
 -- "196608 is one and a half times 131072."
-abbrev pub Demand3First : Type 0
-Demand3First = OfWindows sixteen (FirstHalf 196608)
+abbrev pub band : ℕ
+band = 196608
 
-abbrev pub Demand3Second : Type 0
-Demand3Second = OfWindows sixteen (SecondHalf 196608)
+abbrev pub FirstAtSixteen : Type 0
+FirstAtSixteen = OfWindows sixteen (FirstHalf band)
+
+abbrev pub SecondAtSixteen : Type 0
+SecondAtSixteen = OfWindows sixteen (SecondHalf band)

@@ -1,6 +1,6 @@
 -- Document 01, "Percentage differential" (source documents 000 and 003): what is compared in a phase, and when it operates. In these
 -- definitions i gives the phasor of each end in the phase, the ends counted from 0, and n is N, how many there are.
-use Prim.Native.Nat.{ℕ, _*_, _≤_}
+use Prim.Native.Nat.{ℕ, _*_}
 use mathlib.Core.List.{[], _∷_}
 use mathlib.Core.Bool.{Bool, _&&_}
 use lib.Dec.{leb, ltb}
@@ -48,25 +48,3 @@ operates K pickup x = leb (pickup * pickup) (x .square) && ltb (K * x .restraint
 -- "phases a=1, b=2, c=4"
 unfoldable pub operatingBits : ℕ → ℕ → Comparisons → ℕ
 operatingBits K pickup x = bits (operates K pickup (x .a) ∷ operates K pickup (x .b) ∷ operates K pickup (x .c) ∷ [])
-
--- ---- how large they are, for phasors within 42000 of zero and up to six ends
-
--- 64 times the root of 2 times 42000², rounded up
-abbrev pub endMost : ℕ
-endMost = 3801407
-
-abbrev pub restraintMost : ℕ
-restraintMost = 6 * endMost
-
--- 2 times (6 times 42000)²
-abbrev pub squareMost : ℕ
-squareMost = 127008000000
-
-pub record Sized (x : Comparison) : Type 0 where
-  pub square-size : x .square ≤ squareMost
-  pub restraint-size : x .restraint ≤ restraintMost
-
-pub record AllSized (x : Comparisons) : Type 0 where
-  pub sized-a : Sized (x .a)
-  pub sized-b : Sized (x .b)
-  pub sized-c : Sized (x .c)

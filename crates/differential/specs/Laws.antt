@@ -15,11 +15,13 @@ use Rattle.phasors.specs.Grid.{current}
 use Rattle.differential.specs.declared.Comparison.{Comparison}
 use Rattle.differential.specs.Differential.{restraint, comparison, operates}
 
--- "The phase operates exactly when s >= pickup² and 40960000 s > (K U)²."
+-- "s >= pickup² and 40960000 s > (K U)²"
+abbrev pub OperatesBy : ℕ → ℕ → Comparison → Type 0
+OperatesBy K pickup x = (pickup * pickup ≤ x .square) × (K * x .restraint * (K * x .restraint) < 40960000 * x .square)
+
+-- "The phase operates exactly when" that is so.
 abbrev pub OperatesRule : Type 0
-OperatesRule =
-    (K pickup : ℕ) (x : Comparison) →
-    Exactly (operates K pickup x ≡ true) ((pickup * pickup ≤ x .square) × (K * x .restraint * (K * x .restraint) < 40960000 * x .square))
+OperatesRule = (K pickup : ℕ) (x : Comparison) → Exactly (operates K pickup x ≡ true) (OperatesBy K pickup x)
 
 -- A phase that operates at a slope operates at every smaller one, all else equal.
 abbrev pub SmallerSlope : Type 0

@@ -4,3 +4,4 @@ pub mod Demand3
 pub mod Laws
 pub mod Named
 pub mod PaperMill
+pub mod Sizes

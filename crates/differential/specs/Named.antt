@@ -40,7 +40,7 @@ phasors = current sixteen named 6 0
 -- It has the length of a window of six ends; s = 32 and U = 363, so that it operates; and L and F at m = 1.
 pub record NamedWindow : Type 0 where
   pub six-ends : length named ≡ windowLength 6
-  pub compared : comparison phasors 6 ≡ record { square = 32; restraint = 363 }
+  pub comparison-is : comparison phasors 6 ≡ record { square = 32; restraint = 363 }
   pub operating : operates 99 1 (comparison phasors 6) ≡ true
   pub restrained : L 1 sums 6 ≡ 1195315
   pub differing : F 1 sums 6 ≡ 287591

@@ -2,10 +2,13 @@
 // flows, and whether that is enough to operate.
 ghost use mathlib.Core.Path.{_≡_};
 ghost use Prim.Native.Nat.{_<_, _≤_};
-ghost use Rattle.plane.specs.Plane.{Inside, phasorSize};
-ghost use Rattle.phasors.specs.Grid.{GridInside, cell};
+ghost use Rattle.plane.specs.Sizes.{Inside, phasorSize};
+ghost use Rattle.phasors.specs.Grid.{cell};
+ghost use Rattle.phasors.specs.Sizes.{GridInside};
+ghost use Rattle.settings.specs.Table.{mostSlope, mostCounts};
 ghost use Rattle.settings.specs.Fields.{Ranges, slope, pickup};
-ghost use Rattle.differential.specs.Differential.{Sized, AllSized, endRestraint, endMost, restraintMost, comparison, comparisons, magnitude, operates, operatingBits};
+ghost use Rattle.differential.specs.Differential.{endRestraint, comparison, comparisons, magnitude, operates, operatingBits};
+ghost use Rattle.differential.specs.Sizes.{Sized, AllSized, endMost, restraintMost};
 use plane::Phasor;
 use whole::bit_before;
 
@@ -37,7 +40,7 @@ fn end_restraint(i: Phasor) -> u64
 }
 
 // s and U of a phase, in one pass over the ends.
-fn compared(grid: [[Phasor; 6]; 3], p: usize, ends: usize) -> Comparison
+fn of_phase(grid: [[Phasor; 6]; 3], p: usize, ends: usize) -> Comparison
     requires { ⌜ (p < 3) × (ends ≤ 6) × GridInside grid ends ⌝ }
     ensures { λ r. ⌜ (r ≡ comparison (cell grid p) ends) × Sized r ⌝ }
 {
@@ -53,13 +56,13 @@ fn compared(grid: [[Phasor; 6]; 3], p: usize, ends: usize) -> Comparison
 }
 
 // What is compared in each phase, from the currents of all ends.
-pub fn of_line(grid: [[Phasor; 6]; 3], ends: usize) -> Comparisons
+pub fn of_phases(grid: [[Phasor; 6]; 3], ends: usize) -> Comparisons
     requires { ⌜ (ends ≤ 6) × GridInside grid ends ⌝ }
     ensures { λ r. ⌜ (r ≡ comparisons (cell grid) ends) × AllSized r ⌝ }
 {
-    let a = compared(grid, 0, ends);
-    let b = compared(grid, 1, ends);
-    let c = compared(grid, 2, ends);
+    let a = of_phase(grid, 0, ends);
+    let b = of_phase(grid, 1, ends);
+    let c = of_phase(grid, 2, ends);
     Comparisons { a, b, c }
 }
 
@@ -73,7 +76,7 @@ pub fn magnitude(x: Comparison) -> u64
 
 // Whether a phase operates at a slope, in percent, and with a pickup, in counts.
 pub fn operates(slope: u64, pickup: u64, x: Comparison) -> bool
-    requires { ⌜ (slope ≤ 100) × (pickup ≤ 42000) × Sized x ⌝ }
+    requires { ⌜ (slope ≤ mostSlope) × (pickup ≤ mostCounts) × Sized x ⌝ }
     ensures { λ r. ⌜ r ≡ operates slope pickup x ⌝ }
 {
     let restrained = slope * x.restraint;
@@ -81,7 +84,7 @@ pub fn operates(slope: u64, pickup: u64, x: Comparison) -> bool
 }
 
 // The phases that operate by a good settings record: a 1, b 2, c 4.
-pub fn bits(s: &[u8], x: Comparisons) -> u8
+pub fn operating_bits(s: &[u8], x: Comparisons) -> u8
     requires { ⌜ Ranges (now s) × AllSized x ⌝ }
     ensures { λ r. ⌜ r ≡ operatingBits (slope (now (s .entry))) (pickup (now (s .entry))) x ⌝ }
 {

@@ -19,9 +19,9 @@ use Rattle.plane.proofs.Laws.{squared-nonneg, dot-zero, times-zero, rounded-zer
 use Rattle.distance.specs.declared.direction.Direction.{Direction}
 use Rattle.distance.specs.declared.direction.Direction.the-variants.{None, Forward, Reverse}
 use Rattle.distance.specs.Sequence.{a, a², scale, sequence, turned}
-use Rattle.distance.specs.Line.{angle}
+use Rattle.distance.specs.Constants.{angle}
 use Rattle.distance.specs.Direction.{reachesPickup, torque, sideOf, directionOf, directionNumber}
-use Rattle.distance.specs.Mho.{numerator, denominator, mho, asserts, residual, kProduct, ground, phase, loopsOf, loopBits}
+use Rattle.distance.specs.Mho.{numerator, denominator, mho, asserts, residual, kProduct, groundLoop, phaseLoop, loopsOf, loopBits}
 use Rattle.distance.specs.Laws.{MhoRule, LargerReach, NoPolarising, NoPositive, NeverBoth, ForwardRule, ReverseRule}
 
 -- ---- the mho rule
@@ -56,18 +56,18 @@ unfolding turned
 turned-zero f = rw (times-zero f) (rounded-zero scale tt)
 
 pub no-positive : NoPositive
-unfolding loopBits loopsOf ground phase
+unfolding loopBits loopsOf groundLoop phaseLoop
 no-positive z k r v i e =
     let off = no-polarising z r in
     let kp = kProduct k i in
     rw (e, turned-zero a, turned-zero a²)
     (rw (
-      off (ground (v .a) (i .a) kp zero) refl,
-      off (ground (v .b) (i .b) kp zero) refl,
-      off (ground (v .c) (i .c) kp zero) refl,
-      off (phase (v .a) (v .b) (i .a) (i .b) zero) minus-j-zero,
-      off (phase (v .b) (v .c) (i .b) (i .c) zero) minus-j-zero,
-      off (phase (v .c) (v .a) (i .c) (i .a) zero) minus-j-zero,
+      off (groundLoop (v .a) (i .a) kp zero) refl,
+      off (groundLoop (v .b) (i .b) kp zero) refl,
+      off (groundLoop (v .c) (i .c) kp zero) refl,
+      off (phaseLoop (v .a) (v .b) (i .a) (i .b) zero) minus-j-zero,
+      off (phaseLoop (v .b) (v .c) (i .b) (i .c) zero) minus-j-zero,
+      off (phaseLoop (v .c) (v .a) (i .c) (i .a) zero) minus-j-zero,
     ))
 
 -- ---- direction

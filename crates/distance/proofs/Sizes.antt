@@ -3,16 +3,18 @@
 use Prim.Native.Nat.{ℕ}
 use mathlib.Core.List.{List}
 use lib.IntN.{ℤ, pos}
-use Rattle.whole.specs.Range.{Within}
+use Rattle.whole.specs.Sizes.{Within}
 use Rattle.whole.proofs.Size.{lit, wider, abs-of}
 use Rattle.plane.specs.declared.Phasor.{Phasor}
 use Rattle.plane.specs.declared.Phases.{Phases}
-use Rattle.plane.specs.Plane.{Inside, AllInside, phasorSize}
+use Rattle.plane.specs.Sizes.{Inside, AllInside, phasorSize}
 use Rattle.plane.proofs.Bounds.{inside-plus, inside-factor, inside-scaled, inside-rounded, inside-wider}
-use Rattle.settings.specs.Record.{minus}
-use Rattle.settings.specs.Fields.{From, FromSigned, Ranges, reach, forwardLimit, reverseLimit, negativePickup}
-use Rattle.distance.specs.Sequence.{Turn, sequenceSize, polarisingSize, scale, turned, sequence}
-use Rattle.distance.specs.Line.{replica, compensation, Compensates, angle}
+use Rattle.settings.specs.Record.{negated}
+use Rattle.settings.specs.Table.{mostCounts, mostReplica, mostReach, mostAngle, mostLimit}
+use Rattle.settings.specs.Fields.{From, FromSigned, Ranges, reach, forwardLimit, reverseLimit, negativeSequencePickup}
+use Rattle.distance.specs.Sequence.{scale, turned, sequence}
+use Rattle.distance.specs.Sizes.{Turn, sequenceSize, polarisingSize, Compensates, residualSize, kProductSize}
+use Rattle.distance.specs.Constants.{replica, compensation, angle}
 use Rattle.distance.specs.Mho.{residual, kProduct}
 
 -- ---- the settings
@@ -20,29 +22,29 @@ use Rattle.distance.specs.Mho.{residual, kProduct}
 from : {low high v : ℕ} → From low high v → Within high (pos v)
 from h = record { size = h .most }
 
-from-signed : {b : ℕ} {v : ℤ} → FromSigned (minus b) (pos b) v → Within b v
+from-signed : {b : ℕ} {v : ℤ} → FromSigned (negated b) (pos b) v → Within b v
 from-signed h = abs-of (h .least) (h .most)
 
 module _ {s : List ℕ} (h : Ranges s) where
-  pub replica-inside : Inside 20000 (replica s)
+  pub replica-inside : Inside mostReplica (replica s)
   replica-inside = record { real = from (h .replicaReal-range); imag = from (h .replicaImaginary-range) }
 
   pub compensation-inside : Compensates (compensation s)
   compensation-inside = record { real = from (h .kReal-range); imag = from-signed (h .kImaginary-range) }
 
-  pub angle-inside : Inside 1000 (angle s)
+  pub angle-inside : Inside mostAngle (angle s)
   angle-inside = record { real = from (h .angleReal-range); imag = from (h .angleImaginary-range) }
 
-  pub forward-within : Within 20000 (forwardLimit s)
+  pub forward-within : Within mostLimit (forwardLimit s)
   forward-within = from-signed (h .forwardLimit-range)
 
-  pub reverse-within : Within 20000 (reverseLimit s)
+  pub reverse-within : Within mostLimit (reverseLimit s)
   reverse-within = from-signed (h .reverseLimit-range)
 
-  pub pickup-within : Within 42000 (pos (negativePickup s))
-  pickup-within = from (h .negativePickup-range)
+  pub pickup-within : Within mostCounts (pos (negativeSequencePickup s))
+  pickup-within = from (h .negativeSequencePickup-range)
 
-  pub reach-within : Within 2000 (pos (reach s))
+  pub reach-within : Within mostReach (pos (reach s))
   reach-within = from (h .reach-range)
 
 -- ---- the quantities
@@ -65,11 +67,11 @@ unfolding turned
 turned-inside f p = inside-wider (inside-rounded scale tt (inside-factor (f .real) (f .imag) p)) tt
 
 -- Ia+Ib+Ic
-pub residual-inside : {i : Phases} → AllInside phasorSize i → Inside 126000 (residual i)
+pub residual-inside : {i : Phases} → AllInside phasorSize i → Inside residualSize (residual i)
 unfolding residual
 residual-inside i = inside-plus (inside-plus (i .inside-a) (i .inside-b)) (i .inside-c)
 
 -- the k product
-pub k-product-inside : {k : Phasor} {i : Phases} → Compensates k → AllInside phasorSize i → Inside 189000 (kProduct k i)
+pub k-product-inside : {k : Phasor} {i : Phases} → Compensates k → AllInside phasorSize i → Inside kProductSize (kProduct k i)
 unfolding kProduct
 k-product-inside k i = inside-wider (inside-rounded 1000 tt (inside-factor (k .real) (k .imag) (residual-inside i))) tt

@@ -4,18 +4,18 @@ use mathlib.Core.List.{List}
 use mathlib.Core.Bool.{Bool, cond}
 use lib.IntN.{ℤ, pos, _*ℤ_}
 use lib.Signed.{ltZ, leZ}
-use Rattle.settings.specs.Fields.{forwardLimit, reverseLimit, negativePickup}
+use Rattle.settings.specs.Fields.{forwardLimit, reverseLimit, negativeSequencePickup}
 use Rattle.plane.specs.declared.Phasor.{Phasor}
 use Rattle.plane.specs.Plane.{times, dot, squared}
 use Rattle.distance.specs.declared.direction.Direction.{Direction}
 use Rattle.distance.specs.declared.direction.Direction.the-variants.{None, Forward, Reverse}
-use Rattle.distance.specs.Line.{angle}
+use Rattle.distance.specs.Constants.{angle}
 
 -- In these names v2 is 3V2 and i2 is 3I2.
 
 -- 3I2 reaches its pickup: |3I2|² is not "below the square of its pickup"
 unfoldable pub reachesPickup : List ℕ → Phasor → Bool
-reachesPickup s i2 = leZ (pos (negativePickup s) *ℤ pos (negativePickup s)) (squared i2)
+reachesPickup s i2 = leZ (pos (negativeSequencePickup s) *ℤ pos (negativeSequencePickup s)) (squared i2)
 
 -- "T = Re[3V2 (D 3I2)*]"
 unfoldable pub torque : Phasor → Phasor → Phasor → ℤ

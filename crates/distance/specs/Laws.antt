@@ -6,13 +6,13 @@ use Prim.Native.Nat.{ℕ}
 use lib.IntN.{ℤ, pos, _*ℤ_}
 use lib.Signed.{_≤ℤ_, _<ℤ_}
 use Rattle.whole.specs.Exactly.{Exactly}
-use Rattle.settings.specs.Fields.{forwardLimit, reverseLimit, negativePickup}
+use Rattle.settings.specs.Fields.{forwardLimit, reverseLimit, negativeSequencePickup}
 use Rattle.plane.specs.declared.Phasor.{Phasor}
 use Rattle.plane.specs.declared.Phases.{Phases}
 use Rattle.plane.specs.Plane as plane
 use Rattle.distance.specs.declared.direction.Direction.the-variants.{Forward, Reverse}
-use Rattle.distance.specs.Sequence.{positive}
-use Rattle.distance.specs.Line.{angle}
+use Rattle.distance.specs.Sequence.{positiveSequence}
+use Rattle.distance.specs.Constants.{angle}
 use Rattle.distance.specs.Direction.{torque, directionOf}
 use Rattle.distance.specs.declared.mho.Loop.{Loop}
 use Rattle.distance.specs.Mho.{loopsOf, numerator, denominator, asserts, loopBits}
@@ -37,13 +37,13 @@ NoPolarising = (z : Phasor) (r : ℤ) (l : Loop) → l .vp ≡ plane.zero → as
 
 -- Nor does one of the six where 3V1 = 0.
 abbrev pub NoPositive : Type 0
-NoPositive = (z k : Phasor) (r : ℤ) (v i : Phases) → positive v ≡ plane.zero → loopBits z r (loopsOf k v i) ≡ 0
+NoPositive = (z k : Phasor) (r : ℤ) (v i : Phases) → positiveSequence v ≡ plane.zero → loopBits z r (loopsOf k v i) ≡ 0
 
 -- ---- direction
 
 -- 3I2 reaches its pickup
-abbrev pub Reaches : List ℕ → Phasor → Type 0
-Reaches s i2 = (pos (negativePickup s) *ℤ pos (negativePickup s)) ≤ℤ plane.squared i2
+abbrev pub PickupReached : List ℕ → Phasor → Type 0
+PickupReached s i2 = (pos (negativeSequencePickup s) *ℤ pos (negativeSequencePickup s)) ≤ℤ plane.squared i2
 
 -- T < zf |3I2|²
 abbrev pub BelowForward : List ℕ → Phasor → Phasor → Type 0
@@ -59,9 +59,9 @@ NeverBoth = (s : List ℕ) (v2 i2 : Phasor) → forwardLimit s <ℤ reverseLimit
 
 -- So each direction has its own condition, whichever is tested first.
 abbrev pub ForwardRule : Type 0
-ForwardRule = (s : List ℕ) (v2 i2 : Phasor) → Exactly (directionOf s v2 i2 ≡ Forward) (Reaches s i2 × BelowForward s v2 i2)
+ForwardRule = (s : List ℕ) (v2 i2 : Phasor) → Exactly (directionOf s v2 i2 ≡ Forward) (PickupReached s i2 × BelowForward s v2 i2)
 
 abbrev pub ReverseRule : Type 0
 ReverseRule =
     (s : List ℕ) (v2 i2 : Phasor) → forwardLimit s <ℤ reverseLimit s →
-    Exactly (directionOf s v2 i2 ≡ Reverse) (Reaches s i2 × AboveReverse s v2 i2)
+    Exactly (directionOf s v2 i2 ≡ Reverse) (PickupReached s i2 × AboveReverse s v2 i2)

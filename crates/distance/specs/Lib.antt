@@ -1,6 +1,7 @@
 -- Document 01, "Sequence quantities and direction" and "Mho loops".
 pub mod Sequence
-pub mod Line
+pub mod Constants
 pub mod Direction
 pub mod Mho
 pub mod Laws
+pub mod Sizes

@@ -7,10 +7,10 @@ use lib.Signed.{ltZ, leZ}
 use Rattle.whole.specs.Bits.{bits}
 use Rattle.plane.specs.declared.Phasor.{Phasor}
 use Rattle.plane.specs.declared.Phases.{Phases}
-use Rattle.plane.specs.Plane.{Inside, plus, minus, times, rounded, minusJ, dot}
+use Rattle.plane.specs.Plane.{plus, minus, times, rounded, minusJ, dot}
 use Rattle.distance.specs.declared.mho.Loop.{Loop}
 use Rattle.distance.specs.declared.mho.SixLoops.{SixLoops}
-use Rattle.distance.specs.Sequence.{polarisingSize, a, a², turned, positive}
+use Rattle.distance.specs.Sequence.{a, a², turned, positiveSequence}
 
 -- ---- the loops
 
@@ -23,43 +23,29 @@ unfoldable pub kProduct : Phasor → Phases → Phasor
 kProduct k i = rounded 1000 (times k (residual i))
 
 -- A ground loop, from the phase's V and I, the k product and P: "V = Va, I = Ia + k(Ia+Ib+Ic)"
-unfoldable pub ground : Phasor → Phasor → Phasor → Phasor → Loop
-ground v i k p = record { v = v; i = plus i k; vp = p }
+unfoldable pub groundLoop : Phasor → Phasor → Phasor → Phasor → Loop
+groundLoop v i k p = record { v = v; i = plus i k; vp = p }
 
 -- The loop of phases x and y, from V and I of both: "V = Va-Vb, I = Ia-Ib", and "minus j times these"
-unfoldable pub phase : Phasor → Phasor → Phasor → Phasor → Phasor → Loop
-phase vx vy ix iy p = record { v = minus vx vy; i = minus ix iy; vp = minusJ p }
+unfoldable pub phaseLoop : Phasor → Phasor → Phasor → Phasor → Phasor → Loop
+phaseLoop vx vy ix iy p = record { v = minus vx vy; i = minus ix iy; vp = minusJ p }
 
 -- The six from the k product, P, aP and a²P: "P = 3V1 for AG, a²P for BG, aP for CG", and "aP for AB, P for BC, a²P for CA"; "CA is c
 -- minus a"
 abbrev pub sixOf : Phases → Phases → Phasor → Phasor → Phasor → Phasor → SixLoops
 sixOf v i k p ap a²p =
     record {
-      ag = ground (v .a) (i .a) k p;
-      bg = ground (v .b) (i .b) k a²p;
-      cg = ground (v .c) (i .c) k ap;
-      ab = phase (v .a) (v .b) (i .a) (i .b) ap;
-      bc = phase (v .b) (v .c) (i .b) (i .c) p;
-      ca = phase (v .c) (v .a) (i .c) (i .a) a²p;
+      ag = groundLoop (v .a) (i .a) k p;
+      bg = groundLoop (v .b) (i .b) k a²p;
+      cg = groundLoop (v .c) (i .c) k ap;
+      ab = phaseLoop (v .a) (v .b) (i .a) (i .b) ap;
+      bc = phaseLoop (v .b) (v .c) (i .b) (i .c) p;
+      ca = phaseLoop (v .c) (v .a) (i .c) (i .a) a²p;
     }
 
 -- The six of end 1, "where aP and a²P are rounded first"
 unfoldable pub loopsOf : Phasor → Phases → Phases → SixLoops
-loopsOf k v i = sixOf v i (kProduct k i) (positive v) (turned a (positive v)) (turned a² (positive v))
-
--- How large a loop's quantities are
-pub record LoopInside (l : Loop) : Type 0 where
-  pub voltage : Inside 84000 (l .v)
-  pub current : Inside 231000 (l .i)
-  pub polarising : Inside polarisingSize (l .vp)
-
-pub record SixInside (l : SixLoops) : Type 0 where
-  pub ag-inside : LoopInside (l .ag)
-  pub bg-inside : LoopInside (l .bg)
-  pub cg-inside : LoopInside (l .cg)
-  pub ab-inside : LoopInside (l .ab)
-  pub bc-inside : LoopInside (l .bc)
-  pub ca-inside : LoopInside (l .ca)
+loopsOf k v i = sixOf v i (kProduct k i) (positiveSequence v) (turned a (positiveSequence v)) (turned a² (positiveSequence v))
 
 -- ---- the rule
 

@@ -1,11 +1,12 @@
 // The direction of a fault, source document 002's negative-sequence element. Here v2 is 3V2 and i2 is 3I2.
 ghost use mathlib.Core.Path.{_≡_};
-ghost use Rattle.whole.specs.Range.{Within};
-ghost use Rattle.plane.specs.Plane.{Inside};
+ghost use Rattle.whole.specs.Sizes.{Within};
+ghost use Rattle.plane.specs.Sizes.{Inside};
+ghost use Rattle.settings.specs.Table.{mostAngle, mostLimit};
 ghost use Rattle.settings.specs.Fields.{Ranges};
-ghost use Rattle.distance.specs.Sequence.{sequenceSize};
+ghost use Rattle.distance.specs.Sizes.{sequenceSize, squareSize};
 ghost use Rattle.distance.specs.Direction.{reachesPickup, torque, sideOf, directionOf, directionNumber};
-use crate::line;
+use crate::constants;
 use plane::Phasor;
 
 // Which way a fault lies from the relay.
@@ -31,13 +32,13 @@ pub fn reaches_pickup(s: &[u8], i2: Phasor) -> bool
     requires { ⌜ Ranges (now s) × Inside sequenceSize i2 ⌝ }
     ensures { λ r. ⌜ r ≡ reachesPickup (now (s .entry)) i2 ⌝ }
 {
-    let pickup = settings::fields::negative_pickup(s);
+    let pickup = settings::fields::negative_sequence_pickup(s);
     pickup * pickup <= plane::square(i2)
 }
 
 // T.
 fn torque(d: Phasor, v2: Phasor, i2: Phasor) -> i64
-    requires { ⌜ Inside 1000 d × Inside sequenceSize v2 × Inside sequenceSize i2 ⌝ }
+    requires { ⌜ Inside mostAngle d × Inside sequenceSize v2 × Inside sequenceSize i2 ⌝ }
     ensures { λ r. ⌜ r ≡ torque d v2 i2 ⌝ }
 {
     plane::dot(v2, plane::times(d, i2))
@@ -45,7 +46,7 @@ fn torque(d: Phasor, v2: Phasor, i2: Phasor) -> i64
 
 // On which side of the two limits T lies; the square is |3I2|².
 fn side(zf: i64, zr: i64, t: i64, square: i64) -> Direction
-    requires { ⌜ Within 20000 zf × Within 20000 zr × Within 100000000000 square ⌝ }
+    requires { ⌜ Within mostLimit zf × Within mostLimit zr × Within squareSize square ⌝ }
     ensures { λ r. ⌜ r ≡ sideOf zf zr t square ⌝ }
 {
     if t < zf * square {
@@ -65,7 +66,7 @@ pub fn of_fault(s: &[u8], v2: Phasor, i2: Phasor) -> Direction
     if reaches_pickup(s, i2) {
         let zf = settings::fields::forward_limit(s);
         let zr = settings::fields::reverse_limit(s);
-        let t = torque(line::angle(s), v2, i2);
+        let t = torque(constants::angle(s), v2, i2);
         side(zf, zr, t, plane::square(i2))
     } else {
         Direction::None

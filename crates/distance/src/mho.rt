@@ -1,15 +1,15 @@
 // The six mho loops, source document 002, Equation 1.
 ghost use mathlib.Core.Path.{_≡_};
 ghost use mathlib.Core.List.{[], _∷_};
-ghost use Prim.Native.Nat.{_^_};
-ghost use Rattle.whole.specs.Range.{Within};
+ghost use Rattle.whole.specs.Sizes.{Within};
 ghost use Rattle.whole.specs.Bits.{bits};
-ghost use Rattle.plane.specs.Plane.{Inside, AllInside, phasorSize};
+ghost use Rattle.plane.specs.Sizes.{Inside, AllInside, phasorSize};
+ghost use Rattle.settings.specs.Table.{mostReplica, mostReach};
 ghost use Rattle.settings.specs.Fields.{Ranges};
-ghost use Rattle.distance.specs.Sequence.{polarisingSize};
-ghost use Rattle.distance.specs.Line.{replica, compensation, Compensates};
-ghost use Rattle.distance.specs.Mho.{LoopInside, SixInside, mho, asserts, residual, kProduct, ground, phase, sixOf, loopsOf, loopBits};
-use crate::line;
+ghost use Rattle.distance.specs.Sizes.{numeratorSize, denominatorSize, polarisingSize, Compensates, residualSize, kProductSize, LoopInside, SixInside};
+ghost use Rattle.distance.specs.Constants.{replica, compensation};
+ghost use Rattle.distance.specs.Mho.{mho, asserts, residual, kProduct, groundLoop, phaseLoop, sixOf, loopsOf, loopBits};
+use crate::constants;
 use crate::sequence;
 use plane::Phases;
 use plane::Phasor;
@@ -41,7 +41,7 @@ const REACH_SCALE: i64 = 1000000;
 // Ia+Ib+Ic.
 pub fn residual(i: Phases) -> Phasor
     requires { ⌜ AllInside phasorSize i ⌝ }
-    ensures { λ r. ⌜ (r ≡ residual i) × Inside 126000 r ⌝ }
+    ensures { λ r. ⌜ (r ≡ residual i) × Inside residualSize r ⌝ }
 {
     plane::plus(plane::plus(i.a, i.b), i.c)
 }
@@ -49,15 +49,15 @@ pub fn residual(i: Phases) -> Phasor
 // The k product, rounded.
 fn k_product(k: Phasor, i: Phases) -> Phasor
     requires { ⌜ Compensates k × AllInside phasorSize i ⌝ }
-    ensures { λ r. ⌜ (r ≡ kProduct k i) × Inside 189000 r ⌝ }
+    ensures { λ r. ⌜ (r ≡ kProduct k i) × Inside kProductSize r ⌝ }
 {
     plane::rounded(plane::times(k, residual(i)), K_SCALE)
 }
 
 // A ground loop, from the phase's voltage and current, the k product and P.
-fn ground(v: Phasor, i: Phasor, k: Phasor, p: Phasor) -> Loop
-    requires { ⌜ Inside phasorSize v × Inside phasorSize i × Inside 189000 k × Inside polarisingSize p ⌝ }
-    ensures { λ r. ⌜ (r ≡ ground v i k p) × LoopInside r ⌝ }
+fn ground_loop(v: Phasor, i: Phasor, k: Phasor, p: Phasor) -> Loop
+    requires { ⌜ Inside phasorSize v × Inside phasorSize i × Inside kProductSize k × Inside polarisingSize p ⌝ }
+    ensures { λ r. ⌜ (r ≡ groundLoop v i k p) × LoopInside r ⌝ }
 {
     let with_k = plane::plus(i, k);
     Loop {
@@ -68,9 +68,9 @@ fn ground(v: Phasor, i: Phasor, k: Phasor, p: Phasor) -> Loop
 }
 
 // The loop of phases x and y, from the voltages and the currents of both, and P.
-fn phase(vx: Phasor, vy: Phasor, ix: Phasor, iy: Phasor, p: Phasor) -> Loop
+fn phase_loop(vx: Phasor, vy: Phasor, ix: Phasor, iy: Phasor, p: Phasor) -> Loop
     requires { ⌜ Inside phasorSize vx × Inside phasorSize vy × Inside phasorSize ix × Inside phasorSize iy × Inside polarisingSize p ⌝ }
-    ensures { λ r. ⌜ (r ≡ phase vx vy ix iy p) × LoopInside r ⌝ }
+    ensures { λ r. ⌜ (r ≡ phaseLoop vx vy ix iy p) × LoopInside r ⌝ }
 {
     let v = plane::minus(vx, vy);
     let i = plane::minus(ix, iy);
@@ -80,15 +80,15 @@ fn phase(vx: Phasor, vy: Phasor, ix: Phasor, iy: Phasor, p: Phasor) -> Loop
 
 // The six from the k product, P, aP and a²P.
 fn six(v: Phases, i: Phases, k: Phasor, p: Phasor, ap: Phasor, a2p: Phasor) -> SixLoops
-    requires { ⌜ AllInside phasorSize v × AllInside phasorSize i × Inside 189000 k × Inside polarisingSize p × Inside polarisingSize ap × Inside polarisingSize a2p ⌝ }
+    requires { ⌜ AllInside phasorSize v × AllInside phasorSize i × Inside kProductSize k × Inside polarisingSize p × Inside polarisingSize ap × Inside polarisingSize a2p ⌝ }
     ensures { λ r. ⌜ (r ≡ sixOf v i k p ap a2p) × SixInside r ⌝ }
 {
-    let ag = ground(v.a, i.a, k, p);
-    let bg = ground(v.b, i.b, k, a2p);
-    let cg = ground(v.c, i.c, k, ap);
-    let ab = phase(v.a, v.b, i.a, i.b, ap);
-    let bc = phase(v.b, v.c, i.b, i.c, p);
-    let ca = phase(v.c, v.a, i.c, i.a, a2p);
+    let ag = ground_loop(v.a, i.a, k, p);
+    let bg = ground_loop(v.b, i.b, k, a2p);
+    let cg = ground_loop(v.c, i.c, k, ap);
+    let ab = phase_loop(v.a, v.b, i.a, i.b, ap);
+    let bc = phase_loop(v.b, v.c, i.b, i.c, p);
+    let ca = phase_loop(v.c, v.a, i.c, i.a, a2p);
     SixLoops {
         ag,
         bg,
@@ -104,8 +104,8 @@ pub fn loops(s: &[u8], v: Phases, i: Phases) -> SixLoops
     requires { ⌜ Ranges (now s) × AllInside phasorSize v × AllInside phasorSize i ⌝ }
     ensures { λ r. ⌜ (r ≡ loopsOf (compensation (now (s .entry))) v i) × SixInside r ⌝ }
 {
-    let k = k_product(line::compensation(s), i);
-    let p = sequence::positive(v);
+    let k = k_product(constants::compensation(s), i);
+    let p = sequence::positive_sequence(v);
     let a = sequence::a();
     let a2 = sequence::a2();
     let ap = sequence::turned(a, p);
@@ -115,7 +115,7 @@ pub fn loops(s: &[u8], v: Phases, i: Phases) -> SixLoops
 
 // The mho rule at reach r.
 fn mho(r: i64, n: i64, m: i64) -> bool
-    requires { ⌜ Within 2000 r × Within (2 ^ 36) n × Within (2 ^ 52) m ⌝ }
+    requires { ⌜ Within mostReach r × Within numeratorSize n × Within denominatorSize m ⌝ }
     ensures { λ x. ⌜ x ≡ mho r n m ⌝ }
 {
     0 < m && REACH_SCALE * n <= r * m
@@ -123,7 +123,7 @@ fn mho(r: i64, n: i64, m: i64) -> bool
 
 // Whether a loop asserts at reach r.
 fn asserts(z: Phasor, r: i64, l: Loop) -> bool
-    requires { ⌜ Inside 20000 z × Within 2000 r × LoopInside l ⌝ }
+    requires { ⌜ Inside mostReplica z × Within mostReach r × LoopInside l ⌝ }
     ensures { λ x. ⌜ x ≡ asserts z r l ⌝ }
 {
     let n = plane::dot(l.v, l.vp);
@@ -132,7 +132,7 @@ fn asserts(z: Phasor, r: i64, l: Loop) -> bool
 }
 
 // The bits of six loops: AG 1, BG 2, CG 4, AB 8, BC 16, CA 32.
-fn bits(ag: bool, bg: bool, cg: bool, ab: bool, bc: bool, ca: bool) -> u8
+fn six_bits(ag: bool, bg: bool, cg: bool, ab: bool, bc: bool, ca: bool) -> u8
     ensures { λ x. ⌜ x ≡ bits (ag ∷ bg ∷ cg ∷ ab ∷ bc ∷ ca ∷ []) ⌝ }
 {
     bit_before(
@@ -145,16 +145,16 @@ fn bits(ag: bool, bg: bool, cg: bool, ab: bool, bc: bool, ca: bool) -> u8
 }
 
 // The six loop bits at reach r, by a good settings record.
-pub fn bits_at(s: &[u8], r: i64, l: SixLoops) -> u8
-    requires { ⌜ Ranges (now s) × Within 2000 r × SixInside l ⌝ }
+pub fn loop_bits(s: &[u8], r: i64, l: SixLoops) -> u8
+    requires { ⌜ Ranges (now s) × Within mostReach r × SixInside l ⌝ }
     ensures { λ x. ⌜ x ≡ loopBits (replica (now (s .entry))) r l ⌝ }
 {
-    let z = line::replica(s);
+    let z = constants::replica(s);
     let ag = asserts(z, r, l.ag);
     let bg = asserts(z, r, l.bg);
     let cg = asserts(z, r, l.cg);
     let ab = asserts(z, r, l.ab);
     let bc = asserts(z, r, l.bc);
     let ca = asserts(z, r, l.ca);
-    bits(ag, bg, cg, ab, bc, ca)
+    six_bits(ag, bg, cg, ab, bc, ca)
 }

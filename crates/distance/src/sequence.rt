@@ -1,7 +1,8 @@
 // Sequence quantities, source document 002: 3V1, 3V2 and 3I2, formed at scale 16384 and rounded by it.
 ghost use mathlib.Core.Path.{_≡_};
-ghost use Rattle.plane.specs.Plane.{Inside, AllInside, phasorSize};
-ghost use Rattle.distance.specs.Sequence.{sequenceSize, polarisingSize, a, a², Turn, turned, sequence, positive, negative};
+ghost use Rattle.plane.specs.Sizes.{Inside, AllInside, phasorSize};
+ghost use Rattle.distance.specs.Sequence.{a, a², turned, sequence, positiveSequence, negativeSequence};
+ghost use Rattle.distance.specs.Sizes.{sequenceSize, polarisingSize, Turn};
 use plane::Phases;
 use plane::Phasor;
 
@@ -48,17 +49,17 @@ fn sequence(f: Phasor, g: Phasor, x: Phases) -> Phasor
 }
 
 // 3V1.
-pub fn positive(v: Phases) -> Phasor
+pub fn positive_sequence(v: Phases) -> Phasor
     requires { ⌜ AllInside phasorSize v ⌝ }
-    ensures { λ r. ⌜ (r ≡ positive v) × Inside sequenceSize r ⌝ }
+    ensures { λ r. ⌜ (r ≡ positiveSequence v) × Inside sequenceSize r ⌝ }
 {
     sequence(a(), a2(), v)
 }
 
 // 3V2 or 3I2.
-pub fn negative(i: Phases) -> Phasor
+pub fn negative_sequence(i: Phases) -> Phasor
     requires { ⌜ AllInside phasorSize i ⌝ }
-    ensures { λ r. ⌜ (r ≡ negative i) × Inside sequenceSize r ⌝ }
+    ensures { λ r. ⌜ (r ≡ negativeSequence i) × Inside sequenceSize r ⌝ }
 {
     sequence(a2(), a(), i)
 }

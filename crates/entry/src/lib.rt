@@ -7,7 +7,7 @@ ghost use Rattle.entry.specs.Pair.{recordLength, pairLength, nothing};
 ghost use Rattle.entry.specs.Entry.{Proposed, Confirmed};
 ghost use Rattle.lent.specs.Lent.{over};
 use answers::Answer;
-use lent::Compared;
+use lent::Agreement;
 
 pub const RECORD_LENGTH: usize = 32;
 
@@ -30,7 +30,7 @@ pub fn propose(state: &mut [u8], at: usize, entry: &[u8], verdict: Answer) -> An
 {
     if entry.len() != RECORD_LENGTH {
         clear(state, at);
-        return Answer::EntryLength;
+        return Answer::OtherEntryLength;
     }
     if answers::is_done(verdict) {
         lent::put(state, at + RECORD_LENGTH, entry);
@@ -47,7 +47,7 @@ pub fn confirm(state: &mut [u8], at: usize, entry: &[u8], standing: Answer) -> A
 {
     if entry.len() != RECORD_LENGTH {
         clear(state, at);
-        return Answer::EntryLength;
+        return Answer::OtherEntryLength;
     }
     if !answers::is_done(standing) {
         clear(state, at);
@@ -55,12 +55,12 @@ pub fn confirm(state: &mut [u8], at: usize, entry: &[u8], standing: Answer) -> A
     }
     let from = at + RECORD_LENGTH;
     let to = at + PAIR_LENGTH;
-    match lent::compare(&state[from..to], entry) {
-        Compared::Differ(k) => {
+    match lent::first_difference(&state[from..to], entry) {
+        Agreement::Differ(k) => {
             clear(state, at);
             Answer::Differs(k as u8)
         }
-        Compared::Same => {
+        Agreement::Same => {
             lent::put(state, at, entry);
             clear(state, at);
             Answer::Done

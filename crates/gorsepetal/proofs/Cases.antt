@@ -14,7 +14,7 @@ use Rattle.lent.specs.Lent.{over}
 use Rattle.samples.specs.Window.{windowLength}
 use Rattle.settings.specs.Fields.{Ranges, ends}
 use Rattle.entry.specs.Entry as entry
-use Rattle.entry.proofs.Done.{by-answer, present-done}
+use Rattle.entry.proofs.Done.{by-answer, stored-done}
 use Rattle.decision.specs.Decide as decision
 use Rattle.gorsepetal.specs.State.{stateLength, settingsOf}
 use Rattle.gorsepetal.specs.Calls.{verdict, standing, inForce, windowBytes, Proposed, Confirmed, ReadBack, DecidedNumbers}
@@ -66,8 +66,8 @@ module _ {s e after : List ℕ} {n : ℕ} where
 
 -- a record that counts is in range
 module _ {r : List ℕ} {v : Answer} {b : Bool} where
-  pub counts : v ≡ entry.present (verdict r) NoSettings → b ≡ isDone v → not b ≡ false → Ranges r
-  counts f d y = in-range r (present-done (verdict r) NoSettings refl (sym f ∙ done-is v (sym d ∙ not-false b y)))
+  pub counts : v ≡ entry.ofStored (verdict r) NoSettings → b ≡ isDone v → not b ≡ false → Ranges r
+  counts f d y = in-range r (stored-done (verdict r) NoSettings refl (sym f ∙ done-is v (sym d ∙ not-false b y)))
 
 module _ {s out after : List ℕ} {w : List ℤ} where
   pub decide-17 : (length s ≡ stateLength → ⊥) → after ≡ out → DecidedNumbers s w out NoRelay after

@@ -2,3 +2,4 @@
 pub mod Good
 pub mod Cases
 pub mod Numbers
+pub mod Contracts

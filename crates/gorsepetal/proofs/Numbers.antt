@@ -12,7 +12,8 @@ use lib.ListN.{length, take}
 use lib.Seq.{length-take-le}
 use Rattle.answers.specs.declared.Answer.{Answer}
 use Rattle.answers.specs.Answers.{givenBack, isDone}
-use Rattle.samples.specs.Window.{numbersOf, count}
+use Rattle.samples.specs.Window.{numbersOf}
+use Rattle.samples.specs.Sizes.{count}
 use Rattle.samples.proofs.Bytes.{numbers-length, count-window, count-held}
 use Rattle.settings.specs.Fields.{ends}
 use Rattle.decision.specs.Decide.{windowAnswer, written}

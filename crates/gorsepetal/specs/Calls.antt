@@ -33,9 +33,10 @@ ofCheck (Bad k) = OutOfRange k
 abbrev pub verdict : List ℕ → Answer
 verdict r = ofCheck (checked r)
 
--- A good record: of 32 bytes, one that propose accepts.
-abbrev pub Accepted : List ℕ → Type 0
-Accepted r = verdict r ≡ Done
+-- A good record: the table's verdict on it, every rule kept. The length is asked for apart, because a byte past the end would read as 0: an
+-- entry of another length is refused with 5, and a stored record has the 32 bytes that the state has for it.
+abbrev pub GoodRecord : List ℕ → Type 0
+GoodRecord r = verdict r ≡ Done
 
 -- "Propose: 5, 6."
 abbrev pub proposeAnswer : List ℕ → List ℕ → Answer
@@ -56,7 +57,7 @@ confirmState s e = cond (isRelay s) (withSettings s (entry.confirmed (standing s
 
 -- Refusal 1: no settings in force. It goes by the verdict on what is stored, too.
 abbrev pub inForce : List ℕ → Answer
-inForce s = entry.present (verdict (settingsOf s .force)) NoSettings
+inForce s = entry.ofStored (verdict (settingsOf s .force)) NoSettings
 
 -- Refusals 17 and 1, which stand first in read-back and in decide.
 abbrev pub ready : List ℕ → Answer
@@ -93,6 +94,10 @@ decideAnswer s fits w out = ifDone (ready s) (windowAnswer fits w out) (ready s)
 abbrev pub decideOut : List ℕ → Bool → List ℤ → List ℕ → List ℕ
 decideOut s fits w out = written (decideAnswer s fits w out) (settingsOf s .force) w out
 
+-- What a slice lent to be read alone holds after a call: what it held.
+abbrev pub Unchanged : {A : Type 0} → List A → List A → Type 0
+Unchanged before after = after ≡ before
+
 -- What each call promises of the number n given back and of what it leaves.
 pub record Proposed (s e : List ℕ) (n : ℕ) (after : List ℕ) : Type 0 where
   pub given : n ≡ givenBack (proposeAnswer s e)
@@ -102,7 +107,7 @@ pub record Confirmed (s e : List ℕ) (n : ℕ) (after : List ℕ) : Type 0 wher
   pub given : n ≡ givenBack (confirmAnswer s e)
   pub state : after ≡ confirmState s e
 
--- Read-back changes no state: its slice is lent to be read alone.
+-- Read-back changes no state: its contract says so beside this.
 pub record ReadBack (s out : List ℕ) (n : ℕ) (after : List ℕ) : Type 0 where
   pub given : n ≡ givenBack (readBackAnswer s out)
   pub buffer : after ≡ readBackOut s out

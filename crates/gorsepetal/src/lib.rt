@@ -5,14 +5,21 @@ ghost use Prim.Native.Nat.{_*_, _≤_};
 ghost use lib.ListN.{length};
 ghost use Rattle.samples.specs.Window.{windowLength};
 ghost use Rattle.entry.specs.Pair.{recordLength};
-ghost use Rattle.entry.specs.Entry.{proposeAnswer, present};
+ghost use Rattle.entry.specs.Entry.{proposeAnswer, ofStored};
 ghost use Rattle.gorsepetal.specs.State.{stateLength};
-ghost use Rattle.gorsepetal.specs.Calls.{verdict, inForce, windowBytes, Proposed, Confirmed, ReadBack, DecidedNumbers, Decided};
+ghost use Rattle.gorsepetal.specs.Calls.{verdict, inForce, windowBytes, Unchanged, Proposed, Confirmed, ReadBack, DecidedNumbers, Decided};
 use answers::Answer;
-use entry::RECORD_LENGTH;
 use settings::Checked;
 
+// The lengths that a caller needs. The state, a settings record and a decision, in bytes:
 pub const STATE_LENGTH: usize = 64;
+
+pub const RECORD_LENGTH: usize = entry::RECORD_LENGTH;
+
+pub const DECISION_LENGTH: usize = decision::LENGTH;
+
+// and the longest window, in numbers.
+pub const LONGEST_WINDOW_NUMBERS: usize = samples::LONGEST;
 
 // Where the main pair lies in the state: the record in force, the pending one, and what comes after.
 const MAIN: usize = 0;
@@ -27,7 +34,7 @@ fn propose_answer(r: &[u8]) -> Answer
     ensures { λ a. ⌜ a ≡ proposeAnswer (verdict (now (r .entry))) (now (r .entry)) ⌝ }
 {
     if r.len() != RECORD_LENGTH {
-        return Answer::EntryLength;
+        return Answer::OtherEntryLength;
     }
     match settings::check(r) {
         Checked::Good => Answer::Done,
@@ -36,9 +43,9 @@ fn propose_answer(r: &[u8]) -> Answer
 }
 
 // Whether a stored record counts: done if propose would accept it, else the refusal for an absent one.
-fn present(r: &[u8], absent: Answer) -> Answer
+fn of_stored(r: &[u8], absent: Answer) -> Answer
     requires { ⌜ length (now r) ≡ recordLength ⌝ }
-    ensures { λ a. ⌜ a ≡ present (verdict (now (r .entry))) absent ⌝ }
+    ensures { λ a. ⌜ a ≡ ofStored (verdict (now (r .entry))) absent ⌝ }
 {
     if answers::is_done(propose_answer(r)) {
         Answer::Done
@@ -52,13 +59,13 @@ fn in_force(state: &[u8]) -> Answer
     requires { ⌜ length (now state) ≡ stateLength ⌝ }
     ensures { λ a. ⌜ a ≡ inForce (now (state .entry)) ⌝ }
 {
-    present(&state[MAIN..PENDING], Answer::NoSettings)
+    of_stored(&state[MAIN..PENDING], Answer::NoSettings)
 }
 
 // A first entry: it becomes pending if it is good.
 #[no_mangle]
 pub extern "C" fn gorsepetal_propose(state: &mut [u8], entry: &[u8]) -> u64
-    ensures { λ r. ⌜ Proposed (now (state .entry)) (now (entry .entry)) r (now (state .exit)) ⌝ }
+    ensures { λ r. ⌜ Proposed (now (state .entry)) (now (entry .entry)) r (now (state .exit)) × Unchanged (now (entry .entry)) (now (entry .exit)) ⌝ }
 {
     if state.len() != STATE_LENGTH {
         return answers::given_back(Answer::NoRelay);
@@ -69,19 +76,19 @@ pub extern "C" fn gorsepetal_propose(state: &mut [u8], entry: &[u8]) -> u64
 // A second entry: the pending record comes into force if this one is the same 32 bytes.
 #[no_mangle]
 pub extern "C" fn gorsepetal_confirm(state: &mut [u8], entry: &[u8]) -> u64
-    ensures { λ r. ⌜ Confirmed (now (state .entry)) (now (entry .entry)) r (now (state .exit)) ⌝ }
+    ensures { λ r. ⌜ Confirmed (now (state .entry)) (now (entry .entry)) r (now (state .exit)) × Unchanged (now (entry .entry)) (now (entry .exit)) ⌝ }
 {
     if state.len() != STATE_LENGTH {
         return answers::given_back(Answer::NoRelay);
     }
-    let standing = present(&state[PENDING..MAIN_END], Answer::NothingPending);
+    let standing = of_stored(&state[PENDING..MAIN_END], Answer::NothingPending);
     answers::given_back(entry::confirm(state, MAIN, entry, standing))
 }
 
 // The record in force, at the front of a lent buffer.
 #[no_mangle]
 pub extern "C" fn gorsepetal_read_back(state: &[u8], out: &mut [u8]) -> u64
-    ensures { λ r. ⌜ ReadBack (now (state .entry)) (now (out .entry)) r (now (out .exit)) ⌝ }
+    ensures { λ r. ⌜ ReadBack (now (state .entry)) (now (out .entry)) r (now (out .exit)) × Unchanged (now (state .entry)) (now (state .exit)) ⌝ }
 {
     if state.len() != STATE_LENGTH {
         return answers::given_back(Answer::NoRelay);
@@ -99,7 +106,7 @@ pub extern "C" fn gorsepetal_read_back(state: &[u8], out: &mut [u8]) -> u64
 
 // How many bytes a window has by the record in force; 0 where none is.
 pub fn window_bytes(state: &[u8]) -> usize
-    ensures { λ r. ⌜ (r ≡ windowBytes (now (state .entry))) × (r ≤ 2 * windowLength 6) ⌝ }
+    ensures { λ r. ⌜ (r ≡ windowBytes (now (state .entry))) × (r ≤ 2 * windowLength 6) × Unchanged (now (state .entry)) (now (state .exit)) ⌝ }
 {
     if state.len() != STATE_LENGTH {
         return 0;
@@ -113,7 +120,7 @@ pub fn window_bytes(state: &[u8]) -> usize
 
 // The decision on a window of numbers, at the front of a lent buffer.
 pub fn decide(state: &[u8], window: &[i16], out: &mut [u8]) -> Answer
-    ensures { λ a. ⌜ DecidedNumbers (now (state .entry)) (now (window .entry)) (now (out .entry)) a (now (out .exit)) ⌝ }
+    ensures { λ a. ⌜ DecidedNumbers (now (state .entry)) (now (window .entry)) (now (out .entry)) a (now (out .exit)) × Unchanged (now (state .entry)) (now (state .exit)) × Unchanged (now (window .entry)) (now (window .exit)) ⌝ }
 {
     if state.len() != STATE_LENGTH {
         return Answer::NoRelay;
@@ -128,10 +135,10 @@ pub fn decide(state: &[u8], window: &[i16], out: &mut [u8]) -> Answer
 // The same on a window of big-endian bytes.
 #[no_mangle]
 pub extern "C" fn gorsepetal_decide(state: &[u8], samples: &[u8], out: &mut [u8]) -> u64
-    ensures { λ r. ⌜ Decided (now (state .entry)) (now (samples .entry)) (now (out .entry)) r (now (out .exit)) ⌝ }
+    ensures { λ r. ⌜ Decided (now (state .entry)) (now (samples .entry)) (now (out .entry)) r (now (out .exit)) × Unchanged (now (state .entry)) (now (state .exit)) × Unchanged (now (samples .entry)) (now (samples .exit)) ⌝ }
 {
     let n = samples::count(samples);
-    let mut numbers = [0i16; samples::LONGEST];
+    let mut numbers = [0i16; LONGEST_WINDOW_NUMBERS];
     samples::numbers(samples, &mut numbers);
     answers::given_back(decide(state, &numbers[0..n], out))
 }

@@ -8,12 +8,12 @@ use native.Mathlib.Omega.{arith}
 use borrow.Author.Tests.{eq-eqb, ne-eqb, eqb-true, eqb-false}
 use lib.ListN.{length, take}
 use lib.Dec.{eqb}
-use Rattle.lent.specs.Lent.{differFrom, compared, FirstAt}
-use Rattle.lent.specs.declared.Compared.{Compared}
-use Rattle.lent.specs.declared.Compared.the-variants.{Same, Differ}
+use Rattle.lent.specs.Lent.{differFrom, firstDifference, FirstAt}
+use Rattle.lent.specs.declared.Agreement.{Agreement}
+use Rattle.lent.specs.declared.Agreement.the-variants.{Same, Differ}
 
 -- A difference's place is below a bound.
-abbrev pub Below : ℕ → Compared → Type 0
+abbrev pub Below : ℕ → Agreement → Type 0
 Below n Same = Unit {0}
 Below n (Differ k) = k < n
 
@@ -27,9 +27,9 @@ differ-below j n (x ∷ xs) (y ∷ ys) h = by-test (eqb x y) (differ-below (suc 
     by-test true d = d
     by-test false d = omega arith
 
-pub compared-below : (n : ℕ) (xs ys : List ℕ) → length xs ≤ n → Below n (compared xs ys)
-unfolding compared
-compared-below n xs ys h = differ-below 0 n xs ys (omega arith)
+pub difference-below : (n : ℕ) (xs ys : List ℕ) → length xs ≤ n → Below n (firstDifference xs ys)
+unfolding firstDifference
+difference-below n xs ys h = differ-below 0 n xs ys (omega arith)
 
 differ-not-same : (k : ℕ) → Differ k ≡ Same → ⊥
 differ-not-same k e = let z : _≡_ {A = ℕ} 0 1 = cc in omega arith
@@ -52,9 +52,9 @@ first-from j k (x ∷ xs) (y ∷ ys) e = by-test (eqb x y) refl (λ d. first-fro
         let z : k - j ≡ 0 = omega arith in
         (omega arith, rw z (record { before = refl; there = eqb-false x y t }))
 
-pub compared-first : (k : ℕ) (xs ys : List ℕ) → compared xs ys ≡ Differ k → FirstAt xs ys k
-unfolding compared
-compared-first k xs ys e = rw (sub-zero k) at (first-from 0 k xs ys e .1)
+pub difference-first : (k : ℕ) (xs ys : List ℕ) → firstDifference xs ys ≡ Differ k → FirstAt xs ys k
+unfolding firstDifference
+difference-first k xs ys e = rw (sub-zero k) at (first-from 0 k xs ys e .1)
 
 first-is : (j k : ℕ) (xs ys : List ℕ) → length xs ≡ length ys → FirstAt xs ys k → differFrom j xs ys ≡ Differ (j + k)
 unfolding differFrom
@@ -69,9 +69,9 @@ first-is j (suc k) (x ∷ xs) (y ∷ ys) l f =
     rw (eq-eqb x y heads) (first-is (suc j) k xs ys (omega arith) (record { before = tails; there = f .there }) ∙ ap Differ (omega arith))
 
 -- and the other way, for two lists of one length
-pub first-compared : (k : ℕ) (xs ys : List ℕ) → length xs ≡ length ys → FirstAt xs ys k → compared xs ys ≡ Differ k
-unfolding compared
-first-compared k xs ys l f = first-is 0 k xs ys l f ∙ ap Differ (omega arith)
+pub first-difference : (k : ℕ) (xs ys : List ℕ) → length xs ≡ length ys → FirstAt xs ys k → firstDifference xs ys ≡ Differ k
+unfolding firstDifference
+first-difference k xs ys l f = first-is 0 k xs ys l f ∙ ap Differ (omega arith)
 
 same-from : (j : ℕ) (xs ys : List ℕ) → length xs ≡ length ys → differFrom j xs ys ≡ Same → xs ≡ ys
 unfolding differFrom
@@ -85,9 +85,9 @@ same-from j (x ∷ xs) (y ∷ ys) l e = by-test (eqb x y) refl (same-from (suc j
     by-test false t same e = absurd (differ-not-same j e)
 
 -- two lists of one length with no difference are the same list
-pub compared-same : (xs ys : List ℕ) → length xs ≡ length ys → compared xs ys ≡ Same → xs ≡ ys
-unfolding compared
-compared-same xs ys l e = same-from 0 xs ys l e
+pub difference-same : (xs ys : List ℕ) → length xs ≡ length ys → firstDifference xs ys ≡ Same → xs ≡ ys
+unfolding firstDifference
+difference-same xs ys l e = same-from 0 xs ys l e
 
 same-self : (j : ℕ) (xs : List ℕ) → differFrom j xs xs ≡ Same
 unfolding differFrom
@@ -95,6 +95,6 @@ same-self j [] = refl
 same-self j (x ∷ xs) = rw (eq-eqb x x refl) (same-self (suc j) xs)
 
 -- and a list does not differ from itself
-pub compared-self : (xs : List ℕ) → compared xs xs ≡ Same
-unfolding compared
-compared-self xs = same-self 0 xs
+pub difference-self : (xs : List ℕ) → firstDifference xs xs ≡ Same
+unfolding firstDifference
+difference-self xs = same-self 0 xs

@@ -8,7 +8,7 @@ use borrow.Author.Tests.{eq-eqb, ne-eqb}
 use lib.ListN.{length, getD, set, drop, drop-of-length-le}
 use lib.Seq.{paste, paste-suc, drop-cons, take-length}
 use Rattle.lent.specs.Lent.{over, differFrom}
-use Rattle.lent.specs.declared.Compared.the-variants.{Same, Differ}
+use Rattle.lent.specs.declared.Agreement.the-variants.{Same, Differ}
 
 pub put-turn : (d₀ d s : List ℕ) (at j : ℕ) → at + length s ≤ length d₀ → j < length s → d ≡ paste d₀ at s j → set d (at + j) (getD s j 0) ≡ paste d₀ at s (j + 1)
 put-turn d₀ d s at j room more e = rw (e, add-one j) (paste-suc d₀ at s j 0 (omega arith) more)

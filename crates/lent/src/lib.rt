@@ -2,10 +2,10 @@
 ghost use mathlib.Core.Path.{_≡_};
 ghost use Prim.Native.Nat.{_+_, _≤_};
 ghost use lib.ListN.{length};
-ghost use Rattle.lent.specs.Lent.{over, compared};
+ghost use Rattle.lent.specs.Lent.{over, firstDifference};
 
 // What a comparison finds: no difference, or the first place of one.
-pub enum Compared {
+pub enum Agreement {
     Same,
     Differ(usize),
 }
@@ -23,16 +23,16 @@ pub fn put(dst: &mut [u8], at: usize, src: &[u8])
 }
 
 // The first place at which two slices of one length differ.
-pub fn compare(a: &[u8], b: &[u8]) -> Compared
+pub fn first_difference(a: &[u8], b: &[u8]) -> Agreement
     requires { ⌜ length (now a) ≡ length (now b) ⌝ }
-    ensures { λ r. ⌜ r ≡ compared (now (a .entry)) (now (b .entry)) ⌝ }
+    ensures { λ r. ⌜ r ≡ firstDifference (now (a .entry)) (now (b .entry)) ⌝ }
 {
     let mut i = 0;
     while i < a.len() {
         if a[i] != b[i] {
-            return Compared::Differ(i);
+            return Agreement::Differ(i);
         }
         i += 1;
     }
-    Compared::Same
+    Agreement::Same
 }

@@ -11,11 +11,13 @@ use Rattle.whole.specs.Sum.{sumOf}
 use Rattle.whole.proofs.Certificate.{quo, ring! }
 use Rattle.plane.proofs.Triangle.{len-zero, len-add}
 use Rattle.plane.specs.declared.Phasor.{Phasor}
-use Rattle.plane.specs.Plane.{Inside, AllInside, phasorSize, plus, minus, scaled, Long}
+use Rattle.plane.specs.Plane.{plus, minus, scaled}
+use Rattle.plane.specs.Sizes.{Inside, AllInside, phasorSize, Long}
 use Rattle.plane.proofs.Bounds.{inside-plus, inside-wider}
 use Rattle.plane.proofs.Made.{pair}
 use Rattle.phasors.specs.Rate.{Rate}
-use Rattle.phasors.specs.Grid.{cell, current, localCurrents, localOf, total, GridInside, Filled}
+use Rattle.phasors.specs.Grid.{cell, current, localCurrents, localOf, total, Filled}
+use Rattle.phasors.specs.Sizes.{GridInside}
 
 pub total-next : (f : ℕ → Phasor) (n : ℕ) → total f (n + 1) ≡ plus (total f n) (f n)
 unfolding total
@@ -50,14 +52,14 @@ filled-total {rate} {w} {ends} {g} h p l = total-same (cell g p) (current rate w
 
 -- and end 1 of it has the currents of end 1, each within 42000 of zero
 pub filled-local :
-    {rate : Rate} {w : List ℤ} {ends : ℕ} {g : List (List Phasor)} → Filled rate w ends g → 0 < ends →
+    {rate : Rate} {w : List ℤ} {ends : ℕ} {g : List (List Phasor)} → Filled rate w ends g → GridInside g ends → 0 < ends →
     (localOf g ≡ localCurrents rate w ends) × AllInside phasorSize (localOf g)
-filled-local h n =
+filled-local h small n =
     let a : 0 < 3 = omega arith in
     let b : 1 < 3 = omega arith in
     let c : 2 < 3 = omega arith in (
       (λ i. record { a = h .measured 0 0 a n i; b = h .measured 1 0 b n i; c = h .measured 2 0 c n i }),
-      record { inside-a = h .inside 0 0 a n; inside-b = h .inside 1 0 b n; inside-c = h .inside 2 0 c n },
+      record { inside-a = small 0 0 a n; inside-b = small 1 0 b n; inside-c = small 2 0 c n },
     )
 
 -- ---- sums of multiples and of differences, and the triangle inequality over the ends

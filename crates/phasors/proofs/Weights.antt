@@ -11,24 +11,26 @@ use lib.ListN.{length}
 use lib.Signed.{natAbs-le}
 use mir.Syntax.{w16}
 use mir.Val.{SFits}
-use Rattle.whole.specs.Range.{Within}
+use Rattle.whole.specs.Sizes.{Within}
 use Rattle.whole.specs.Round.{Rounded}
 use Rattle.whole.specs.Sum.{sumOf}
 use Rattle.whole.proofs.Sums.{sum-next as added}
 use Rattle.whole.proofs.Size.{neg, add, sub, mul, lit}
 use Rattle.plane.specs.declared.Phasor.{Phasor}
-use Rattle.plane.specs.Plane.{Inside, NearTo, phasorSize, zero, rounded}
+use Rattle.plane.specs.Plane.{NearTo, zero, rounded}
+use Rattle.plane.specs.Sizes.{Inside, phasorSize}
 use Rattle.plane.proofs.Bounds.{inside-rounded, inside-wider}
 use Rattle.plane.proofs.Laws.{rounded-is, rounded-near}
 use Rattle.samples.specs.Window.{frames}
 use Rattle.phasors.specs.Rate.{Rate, cosine, sine, sixteen}
-use Rattle.phasors.specs.Sums.{withSample, sumTo, weight, Summed, exact, phasorOf}
+use Rattle.phasors.specs.Sums.{withSample, sumTo, exact, phasorOf}
+use Rattle.phasors.specs.Sizes.{weight, Summed}
 
 pub sum-next :
-    (table : List ℤ) (shift : ℕ) (x : ℕ → ℤ) (n : ℕ) →
-    sumTo table shift x (n + 1) ≡ withSample (sumTo table shift x n) (x n) (cosine table n) (sine table shift n)
+    (coefficients : List ℤ) (shift : ℕ) (x : ℕ → ℤ) (n : ℕ) →
+    sumTo coefficients shift x (n + 1) ≡ withSample (sumTo coefficients shift x n) (x n) (cosine coefficients n) (sine coefficients shift n)
 unfolding sumTo
-sum-next table shift x n = rw (add-one n)
+sum-next coefficients shift x n = rw (add-one n)
 
 -- ---- one turn of the loop
 
@@ -36,19 +38,19 @@ sum-next table shift x n = rw (add-one n)
 pub fitted : {z : ℤ} → SFits w16 z → Within 32768 z
 fitted {z} f = record { size = natAbs-le z (f .sfits) }
 
-pub summed-none : (table : List ℤ) (shift : ℕ) (x : ℕ → ℤ) → Summed table shift x 0 zero
+pub summed-none : (coefficients : List ℤ) (shift : ℕ) (x : ℕ → ℤ) → Summed coefficients shift x 0 zero
 unfolding sumTo sumOf
-summed-none table shift x = record { summed = refl; real = lit (pos 0); imag = lit (pos 0) }
+summed-none coefficients shift x = record { summed = refl; real = lit (pos 0); imag = lit (pos 0) }
 
 pub summed-next :
-    (table : List ℤ) (shift : ℕ) (x : ℕ → ℤ) (n : ℕ) {sums : Phasor} → Summed table shift x n sums → Within 32768 (x n) →
-    Summed table shift x (n + 1) (withSample sums (x n) (cosine table n) (sine table shift n))
+    (coefficients : List ℤ) (shift : ℕ) (x : ℕ → ℤ) (n : ℕ) {sums : Phasor} → Summed coefficients shift x n sums → Within 32768 (x n) →
+    Summed coefficients shift x (n + 1) (withSample sums (x n) (cosine coefficients n) (sine coefficients shift n))
 unfolding withSample
-summed-next table shift x n h k = record {
+summed-next coefficients shift x n h k = record {
   summed =
-      ap (λ (s : Phasor). withSample s (x n) (cosine table n) (sine table shift n)) (h .summed) ∙ sym (sum-next table shift x n);
-  real = grown (cosine table) (h .real) (mul k (lit (cosine table n)));
-  imag = grown (sine table shift) (h .imag) (neg (mul k (lit (sine table shift n))));
+      ap (λ (s : Phasor). withSample s (x n) (cosine coefficients n) (sine coefficients shift n)) (h .summed) ∙ sym (sum-next coefficients shift x n);
+  real = grown (cosine coefficients) (h .real) (mul k (lit (cosine coefficients n)));
+  imag = grown (sine coefficients shift) (h .imag) (neg (mul k (lit (sine coefficients shift n))));
 }
   where
     grown :

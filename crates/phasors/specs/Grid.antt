@@ -48,11 +48,6 @@ unfoldable pub total : (ℕ → Phasor) → ℕ → Phasor
 total f zero = plane.zero
 total f (suc n) = plane.plus (total f n) (f n)
 
--- Every current of a grid, at the line's ends, is within 42000 of zero.
-abbrev pub GridInside : List (List Phasor) → ℕ → Type 0
-GridInside g ends = (p e : ℕ) → p < 3 → e < ends → plane.Inside plane.phasorSize (cell g p e)
-
--- A grid filled from a window: at each phase and end of the line stands that phase's current there, and within 42000 of zero.
+-- A grid filled from a window: at each phase and end of the line stands that phase's current there.
 pub record Filled (rate : Rate) (w : List ℤ) (ends : ℕ) (g : List (List Phasor)) : Type 0 where
   pub measured : (p e : ℕ) → p < 3 → e < ends → cell g p e ≡ current rate w ends p e
-  pub inside : GridInside g ends

@@ -2,3 +2,4 @@
 pub mod Rate
 pub mod Sums
 pub mod Grid
+pub mod Sizes

@@ -13,11 +13,11 @@ pub record Rate : Type 0 where
 
 -- C[n]
 abbrev pub cosine : List ℤ → ℕ → ℤ
-cosine table n = getD table n (pos 0)
+cosine coefficients n = getD coefficients n (pos 0)
 
 -- S[n], the same table read some places on, around its end
 abbrev pub sine : List ℤ → ℕ → ℕ → ℤ
-sine table shift n = getD table ((n + shift) % length table) (pos 0)
+sine coefficients shift n = getD coefficients ((n + shift) % length coefficients) (pos 0)
 
 -- "Cosines C[0..15]"
 abbrev pub cosines : List ℤ

@@ -2,10 +2,11 @@
 ghost use mathlib.Core.Path.{_≡_};
 ghost use Prim.Native.Nat.{_*_, _<_, _≤_, _^_};
 ghost use lib.ListN.{length};
-ghost use Rattle.plane.specs.Plane.{Inside, AllInside, phasorSize};
+ghost use Rattle.plane.specs.Sizes.{Inside, AllInside, phasorSize};
 ghost use Rattle.samples.specs.Window.{windowLength};
 ghost use Rattle.phasors.specs.Rate.{cosines, sixteen};
-ghost use Rattle.phasors.specs.Sums.{sample, withSample, Summed, phasorOf};
+ghost use Rattle.phasors.specs.Sums.{sample, withSample, phasorOf};
+ghost use Rattle.phasors.specs.Sizes.{Summed, GridInside};
 ghost use Rattle.phasors.specs.Grid.{Filled, localOf, voltagesOf};
 use plane::Phases;
 use plane::Phasor;
@@ -53,18 +54,24 @@ fn with_sample(sums: Phasor, x: i16, c: i16, s: i16) -> Phasor
     Phasor { re, im }
 }
 
-// The sums A and B of a channel, over whatever table is lent.
-fn sums(window: &[i16], channels: usize, channel: usize, table: &[i16], shift: usize) -> Phasor
-    requires { ⌜ (channel < channels) × (length (now table) * channels ≤ length (now window)) × (length (now table) ≤ 256) × (shift ≤ 256) ⌝ }
-    ensures { λ r. ⌜ Summed (now (table .entry)) shift (sample (now (window .entry)) channels channel) (length (now (table .entry))) r ⌝ }
+// The sums A and B of a channel, over whatever table of coefficients is lent.
+fn sums(
+    window: &[i16],
+    channels: usize,
+    channel: usize,
+    coefficients: &[i16],
+    shift: usize,
+) -> Phasor
+    requires { ⌜ (channel < channels) × (length (now coefficients) * channels ≤ length (now window)) × (length (now coefficients) ≤ 256) × (shift ≤ 256) ⌝ }
+    ensures { λ r. ⌜ Summed (now (coefficients .entry)) shift (sample (now (window .entry)) channels channel) (length (now (coefficients .entry))) r ⌝ }
 {
     let mut sums = Phasor { re: 0, im: 0 };
-    for n in 0..table.len() {
+    for n in 0..coefficients.len() {
         sums = with_sample(
             sums,
             window[n * channels + channel],
-            table[n],
-            table[(n + shift) % table.len()],
+            coefficients[n],
+            coefficients[(n + shift) % coefficients.len()],
         );
     }
     sums
@@ -75,8 +82,11 @@ pub fn measure(window: &[i16], channels: usize, channel: usize) -> Phasor
     requires { ⌜ (channel < channels) × (16 * channels ≤ length (now window)) ⌝ }
     ensures { λ r. ⌜ (r ≡ phasorOf sixteen (sample (now (window .entry)) channels channel)) × Inside phasorSize r ⌝ }
 {
-    let table = cosines();
-    plane::rounded(sums(window, channels, channel, &table, SHIFT), DIVISOR)
+    let coefficients = cosines();
+    plane::rounded(
+        sums(window, channels, channel, &coefficients, SHIFT),
+        DIVISOR,
+    )
 }
 
 // Va, Vb, Vc.
@@ -94,7 +104,7 @@ pub fn voltages(window: &[i16], ends: usize) -> Phases
 // The currents of all ends, phase by end.
 pub fn currents(window: &[i16], ends: usize) -> [[Phasor; 6]; 3]
     requires { ⌜ (ends ≤ 6) × (windowLength ends ≤ length (now window)) ⌝ }
-    ensures { λ r. ⌜ Filled sixteen (now (window .entry)) ends r ⌝ }
+    ensures { λ r. ⌜ Filled sixteen (now (window .entry)) ends r × GridInside r ends ⌝ }
 {
     let channels = samples::channels(ends);
     let mut grid = [[Phasor { re: 0, im: 0 }; 6]; 3];

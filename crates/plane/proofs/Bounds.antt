@@ -6,13 +6,14 @@ use native.Mathlib.Nat.{le-div-iff-mul-le}
 use native.Mathlib.Omega.{arith}
 use lib.Dec.{T, leb, ltb, ltb→lt}
 use lib.IntN.{ℤ, pos, _-ℤ_, _*ℤ_}
-use Rattle.whole.specs.Range.{Within}
+use Rattle.whole.specs.Sizes.{Within}
 use Rattle.whole.specs.Round.{Near}
 use Rattle.whole.proofs.Certificate.{quo, ring! }
 use Rattle.whole.proofs.Size.{neg, add, sub, mul, wider, along, abs-mul}
 use Rattle.whole.proofs.Rounding.{round-near, round-error}
 use Rattle.plane.specs.declared.Phasor.{Phasor}
-use Rattle.plane.specs.Plane.{Inside, plus, minus, times, scaled, rounded, minusJ, dot}
+use Rattle.plane.specs.Plane.{plus, minus, times, scaled, rounded, minusJ, dot}
+use Rattle.plane.specs.Sizes.{Inside}
 
 pub inside-plus : {a b : ℕ} {p q : Phasor} → Inside a p → Inside b q → Inside (a + b) (plus p q)
 unfolding plus

@@ -12,7 +12,8 @@ use Rattle.whole.proofs.Certificate.{quo, ring!, le!, g-sq, _⊞_}
 use Rattle.whole.specs.Round.{Rounded, roundBy}
 use Rattle.whole.proofs.Rounding.{round-near, round-is}
 use Rattle.plane.specs.declared.Phasor.{Phasor}
-use Rattle.plane.specs.Plane.{Inside, NearTo, times, rounded, conjugate, minusJ, dot, squared, squaredMagnitude, zero}
+use Rattle.plane.specs.Plane.{NearTo, times, rounded, conjugate, minusJ, dot, squared, squaredMagnitude, zero}
+use Rattle.plane.specs.Sizes.{Inside}
 use Rattle.plane.proofs.Bounds.{within-dot}
 use Rattle.plane.proofs.Made.{pair}
 
@@ -23,9 +24,7 @@ dot-is p q = ring! (p .re ∷ p .im ∷ q .re ∷ q .im ∷ []) (search quo dept
 pub minus-j-is : (p : Phasor) → minusJ p ≡ times (record { re = pos 0; im = negℤ (pos 1) }) p
 unfolding minusJ times
 minus-j-is p =
-    let re : minusJ p .re ≡ times (record { re = pos 0; im = negℤ (pos 1) }) p .re = ring! (p .re ∷ p .im ∷ []) (search quo depth 40) tt in
-    let im : minusJ p .im ≡ times (record { re = pos 0; im = negℤ (pos 1) }) p .im = ring! (p .re ∷ p .im ∷ []) (search quo depth 40) tt in
-    pair re im
+    pair (ring! (p .re ∷ p .im ∷ []) (search quo depth 40) tt) (ring! (p .re ∷ p .im ∷ []) (search quo depth 40) tt)
 
 pub squared-nonneg : (p : Phasor) → pos 0 ≤ℤ squared p
 unfolding dot
@@ -39,9 +38,7 @@ dot-zero p = ring! (p .re ∷ p .im ∷ []) (search quo depth 40) tt
 pub times-zero : (p : Phasor) → times p zero ≡ zero
 unfolding times
 times-zero p =
-    let re : times p zero .re ≡ pos 0 = ring! (p .re ∷ p .im ∷ []) (search quo depth 40) tt in
-    let im : times p zero .im ≡ pos 0 = ring! (p .re ∷ p .im ∷ []) (search quo depth 40) tt in
-    pair re im
+    pair (ring! (p .re ∷ p .im ∷ []) (search quo depth 40) tt) (ring! (p .re ∷ p .im ∷ []) (search quo depth 40) tt)
 
 pub rounded-zero : (d : ℕ) → T (ltb 0 d) → rounded d zero ≡ zero
 unfolding rounded roundBy

@@ -1,6 +1,6 @@
 -- Laws of complex numbers that other crates cite.
 pub mod Bounds
 pub mod Made
-pub mod Products
+pub mod Steps
 pub mod Laws
 pub mod Triangle

@@ -2,7 +2,7 @@
 use mathlib.Core.List.{[], _∷_}
 use lib.IntN.{ℤ, pos, negℤ, _+ℤ_, _-ℤ_, _*ℤ_}
 use lib.Signed.{_≤ℤ_, leZ-yes}
-use Rattle.plane.specs.Length.{Len}
+use Rattle.plane.specs.Sizes.{Len}
 use Rattle.whole.proofs.Certificate.{quo, le!, g-le, g-num, g-sq, _⊞_, _⊠_}
 use Rattle.whole.proofs.Order.{≤-trans, sq-≤}
 

@@ -1,26 +1,8 @@
 -- Complex numbers with whole parts, and what document 01 does with them. Each operation is the textbook's.
 use Prim.Native.Nat.{ℕ}
 use lib.IntN.{ℤ, pos, negℤ, natAbs, _+ℤ_, _-ℤ_, _*ℤ_}
-use Rattle.whole.specs.Range.{Within}
-use Rattle.plane.specs.Length.{Len}
 use Rattle.whole.specs.Round.{Near, roundBy}
 use Rattle.plane.specs.declared.Phasor.{Phasor}
-use Rattle.plane.specs.declared.Phases.{Phases}
-
--- The one way in which a contract bounds a complex number: each component lies within b of zero.
-pub record Inside (b : ℕ) (p : Phasor) : Type 0 where
-  pub real : Within b (p .re)
-  pub imag : Within b (p .im)
-
--- The same of all three phases.
-pub record AllInside (b : ℕ) (v : Phases) : Type 0 where
-  pub inside-a : Inside b (v .a)
-  pub inside-b : Inside b (v .b)
-  pub inside-c : Inside b (v .c)
-
--- "Every component then lies within 42000 of zero."
-abbrev pub phasorSize : ℕ
-phasorSize = 42000
 
 -- 0
 abbrev pub zero : Phasor
@@ -66,10 +48,6 @@ dot p q = p .re *ℤ q .re +ℤ p .im *ℤ q .im
 -- |p|²
 abbrev pub squared : Phasor → ℤ
 squared p = dot p p
-
--- p is at most a long
-abbrev pub Long : Phasor → ℕ → Type 0
-Long p a = Len (p .re) (p .im) (pos a)
 
 -- |p|² as a natural number, to take a root of
 unfoldable pub squaredMagnitude : Phasor → ℕ

@@ -3,8 +3,9 @@ ghost use mathlib.Core.Path.{_≡_};
 ghost use Prim.Native.Nat.{_*_, _^_};
 ghost use lib.IntN.{pos, natAbs};
 ghost use lib.Signed.{_<ℤ_};
-ghost use Rattle.whole.specs.Range.{Within};
-ghost use Rattle.plane.specs.Plane.{Inside, plus, minus, times, scaled, rounded, dot, squared, squaredMagnitude, minusJ};
+ghost use Rattle.whole.specs.Sizes.{Within};
+ghost use Rattle.plane.specs.Plane.{plus, minus, times, scaled, rounded, dot, squared, squaredMagnitude, minusJ};
+ghost use Rattle.plane.specs.Sizes.{Inside};
 
 // A voltage or a current in counts, or any other complex number.
 pub struct Phasor {

@@ -1,17 +1,17 @@
--- The fewest digits that hold a number, as `io::decimal` promises them, are its decimal text; and that text written behind another.
+-- The fewest digits that hold a number, as `io::decimal` promises them, are its decimal text.
 use Prim.Native.Nat.{ℕ, zero, suc, _+_, _-_, _/_, _%_, _^_, _≤_, _<_}
-use mathlib.Core.Path.{_≡_, refl, ap}
-use mathlib.Core.List.{List, _++_}
+use mathlib.Core.Path.{_≡_, _∙_}
+use mathlib.Core.Logic.{⊎-elim}
+use mathlib.Core.List.{List}
 use native.Mathlib.Omega.{arith}
-use native.Mathlib.Nat.{pow-suc, pow-le-pow-right}
-use borrow.Author.Tests.{lt-ltb, le-ltb, leb-true, leb-false}
-use mathlib.Core.Bool.{Bool, true, false}
-use lib.Dec.{leb}
-use lib.ListN.{length, take, drop, length-append}
-use lib.Seq.{take-at, length-take-le}
+use native.Mathlib.Nat.{pow-suc, pow-le-pow-right, eq-zero-or-pos}
+use borrow.Author.Tests.{lt-ltb, le-ltb}
+use lib.ListN.{length}
 use Rattle.lent.specs.Lent.{over}
 use Rattle.io.specs.Digits.{digits, glyph, Fewest}
-use Rattle.report.specs.Line.{digit, decimal, decimalFrom}
+use Rattle.report.specs.Printed.{digit, decimal, decimalFrom}
+use Rattle.report.specs.Written.{Written}
+use Rattle.report.proofs.Written.{written}
 
 -- a power of ten is above its exponent
 below-power : (k : ℕ) → k < 10 ^ k
@@ -50,18 +50,12 @@ digits-text (suc (suc k)) n w =
     digits-from n (suc k) n (omega (arith, below-power (suc k))) w
 
 -- a 64-bit number has at most 20 digits
-pub few-digits : (k n : ℕ) → Fewest 10 1 n k → n < 2 ^ 64 → k ≤ 20
-few-digits k n w h = by-test (leb k 20) refl
+pub few-digits : {k n : ℕ} → Fewest 10 1 n k → n < 2 ^ 64 → k ≤ 20
+few-digits {k} {n} w h = ⊎-elim (λ z. omega arith) (λ more. absurd (omega (arith, w .2 (omega arith), big more))) (eq-zero-or-pos (k - 20))
   where
-    by-test : (b : Bool) → leb k 20 ≡ b → k ≤ 20
-    by-test true e = leb-true k 20 e
-    by-test false e =
-        let more : 20 < k = leb-false k 20 e in
-        let big : 10 ^ 20 ≤ 10 ^ (k - 1) = pow-le-pow-right {n = 10} (omega arith) {i = 20} {j = k - 1} (omega arith) in
-        absurd (omega (arith, w .2 (omega arith)))
+    big : 0 < k - 20 → 10 ^ 20 ≤ 10 ^ (k - 1)
+    big more = pow-le-pow-right {n = 10} (omega arith) {i = 20} {j = k - 1} (omega arith)
 
--- a number's digits, written over a buffer, stand right behind what was there
-pub number-behind : (d ds : List ℕ) {after : List ℕ} (at k n : ℕ) → at + k ≤ length d → k ≡ length ds → ds ≡ digits 10 k n → Fewest 10 1 n k → after ≡ over d at ds → take (at + k) after ≡ take at d ++ decimal n
-number-behind d ds at k n room l e w o =
-    let t : length (take at d ++ ds) ≡ at + k = simp (length-append, length-take-le at d (omega arith)) (omega arith) in
-    rw (o, take-at (take at d ++ ds) (drop (at + length ds) d) (at + k) t, e) (ap (λ (x : List ℕ). take at d ++ x) (digits-text k n w))
+-- a number's digits, written over a buffer, are its text written there
+pub number-written : {d ds after : List ℕ} {at k n : ℕ} → at + k ≤ length d → k ≡ length ds → ds ≡ digits 10 k n → Fewest 10 1 n k → after ≡ over d at ds → Written d at (decimal n) (at + k) after
+number-written {k = k} {n = n} room l e w o = rw (← e ∙ digits-text k n w) (written (omega arith) (omega arith) o)

@@ -13,7 +13,8 @@ use lib.IntN.{ℤ, pos}
 use lib.ListN.{length, take, set, getD}
 use lib.Seq.{take-suc, take-suc-set, take-all, getD-set-same, getD-set-other}
 use Rattle.whole.specs.TwosComplement.{signed}
-use Rattle.samples.specs.Window.{windowLength, numbersOf, Holds, count}
+use Rattle.samples.specs.Window.{windowLength, numbersOf, HoldsNumbers}
+use Rattle.samples.specs.Sizes.{count}
 use Rattle.samples.specs.Decoding.{LowFirst, AllLowFirst}
 
 pub numbers-length : (b : List ℕ) → length (numbersOf b) ≡ length b / 2
@@ -23,7 +24,7 @@ numbers-length (x ∷ []) = refl
 numbers-length (x ∷ y ∷ b) = omega (arith, numbers-length b)
 
 -- bytes that hold n numbers give n numbers
-pub held : (n : ℕ) (b : List ℕ) → Holds n b → length (numbersOf b) ≡ n
+pub held : (n : ℕ) (b : List ℕ) → HoldsNumbers n b → length (numbersOf b) ≡ n
 held n b h = omega (arith, numbers-length b)
 
 -- how many are taken: where a byte is over, where they are too many, and else
@@ -37,10 +38,10 @@ module _ (b : List ℕ) where
   pub count-all : 2 * (length b / 2) ≡ length b → length b / 2 ≤ windowLength 6 → length b / 2 ≡ count b
   count-all h l = rw (eq-eqb (2 * (length b / 2)) (length b) h, le-leb (length b / 2) (windowLength 6) l)
 
-  counted : (n : ℕ) → 0 < n → count b ≡ n → Holds n b
+  counted : (n : ℕ) → 0 < n → count b ≡ n → HoldsNumbers n b
   counted n p e = by-tests (eqb (2 * (length b / 2)) (length b)) refl (leb (length b / 2) (windowLength 6)) e
     where
-      by-tests : (x : Bool) → eqb (2 * (length b / 2)) (length b) ≡ x → (y : Bool) → cond (x && y) (length b / 2) 0 ≡ n → Holds n b
+      by-tests : (x : Bool) → eqb (2 * (length b / 2)) (length b) ≡ x → (y : Bool) → cond (x && y) (length b / 2) 0 ≡ n → HoldsNumbers n b
       by-tests true t true e = omega (arith, eqb-true (2 * (length b / 2)) (length b) t)
       by-tests true t false e = absurd (omega arith)
       by-tests false t y e = absurd (omega arith)
@@ -57,7 +58,7 @@ module _ (b : List ℕ) where
           ne-eqb (count b) (windowLength N) (λ e. eqb-false (length b) (2 * windowLength N) t (counted (windowLength N) (omega arith) e))
 
 -- and all the numbers are taken then
-pub count-held : (n : ℕ) (b : List ℕ) → Holds n b → take n (numbersOf b) ≡ numbersOf b
+pub count-held : (n : ℕ) (b : List ℕ) → HoldsNumbers n b → take n (numbersOf b) ≡ numbersOf b
 count-held n b h = take-all n (numbersOf b) (omega (arith, numbers-length b))
 
 -- the number at i comes of the bytes at 2i and 2i + 1

@@ -8,18 +8,18 @@ use native.Mathlib.Omega.{arith}
 use borrow.Author.Tests.{eqb-true}
 use lib.IntN.{ℤ, pos, negsuc}
 use lib.ListN.{length}
-use Rattle.samples.specs.Window.{missing, same, missingFrom, firstMissing}
-use Rattle.samples.specs.Order.{Missing, Present, Finds, FirstInOrder}
+use Rattle.samples.specs.Window.{missingMark, same, missingFrom, firstMissing}
+use Rattle.samples.specs.Order.{Missing, NoneMissing, Finds, FirstInOrder}
 use Rattle.samples.specs.declared.Found.{Found}
 use Rattle.samples.specs.declared.Found.the-variants.{Nothing, At}
 
 -- ---- the test of one number
 
-marked : (x : ℤ) → same x missing ≡ true → x ≡ missing
+marked : (x : ℤ) → same x missingMark ≡ true → x ≡ missingMark
 marked (pos n) t = absurd (true≢false (sym t))
 marked (negsuc n) t = ap negsuc (eqb-true n 32767 t)
 
-unmarked : (x : ℤ) → same x missing ≡ false → x ≡ missing → ⊥
+unmarked : (x : ℤ) → same x missingMark ≡ false → x ≡ missingMark → ⊥
 unmarked x t e = true≢false (rw e at t)
 
 -- ---- the search finds what it has to
@@ -30,16 +30,16 @@ From j w (At k) = (j ≤ k) × Finds w (At (k - j))
 From j w Nothing = Finds w Nothing
 
 -- one present number more, in front
-more : (x : ℤ) (xs : List ℤ) (n : ℕ) → (x ≡ missing → ⊥) → Present xs n → (k : ℕ) → k < suc n → Missing (x ∷ xs) k → ⊥
+more : (x : ℤ) (xs : List ℤ) (n : ℕ) → (x ≡ missingMark → ⊥) → NoneMissing xs n → (k : ℕ) → k < suc n → Missing (x ∷ xs) k → ⊥
 more x xs n here rest zero l m = here m
 more x xs n here rest (suc k) l m = rest k (le-of-suc-le-suc l) m
 
 from : (j : ℕ) (w : List ℤ) → From j w (missingFrom j w)
 unfolding missingFrom
 from j [] = λ k h m. not-suc-le-zero h
-from j (x ∷ xs) = by-test (same x missing) refl (missingFrom (suc j) xs) (from (suc j) xs)
+from j (x ∷ xs) = by-test (same x missingMark) refl (missingFrom (suc j) xs) (from (suc j) xs)
   where
-    by-test : (b : Bool) → same x missing ≡ b → (r : Found) → From (suc j) xs r → From j (x ∷ xs) (cond b (At j) r)
+    by-test : (b : Bool) → same x missingMark ≡ b → (r : Found) → From (suc j) xs r → From j (x ∷ xs) (cond b (At j) r)
     by-test true t r h =
         let z : j - j ≡ 0 = omega arith in
         (omega arith, rw z (omega arith, marked x t, λ k l m. not-suc-le-zero l))
@@ -58,17 +58,17 @@ finds w = start (missingFrom 0 w) (from 0 w)
     start (At k) h = rw (sub-zero k) at (h .1)
 
 -- the place that it gives is in the list, a missing number stands there, and none before
-pub first-at : (w : List ℤ) (k : ℕ) → firstMissing w ≡ At k → (k < length w) × Missing w k × Present w k
+pub first-at : (w : List ℤ) (k : ℕ) → firstMissing w ≡ At k → (k < length w) × Missing w k × NoneMissing w k
 first-at w k e = subst (Finds w) e (finds w)
 
 -- where it gives none, none is missing
-pub first-nothing : (w : List ℤ) → firstMissing w ≡ Nothing → Present w (length w)
+pub first-nothing : (w : List ℤ) → firstMissing w ≡ Nothing → NoneMissing w (length w)
 first-nothing w e = subst (Finds w) e (finds w)
 
 -- ---- and there is no other answer
 
 -- a missing number is at or after any number with none missing before it
-no-earlier : (w : List ℤ) (k l : ℕ) → Present w k → Missing w l → k ≤ l
+no-earlier : (w : List ℤ) (k l : ℕ) → NoneMissing w k → Missing w l → k ≤ l
 no-earlier w k l before there = le-of-suc-le-suc (lt-of-not-le (λ h. before l h there))
 
 -- two answers that fit are one

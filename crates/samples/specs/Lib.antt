@@ -2,3 +2,4 @@
 pub mod Window
 pub mod Order
 pub mod Decoding
+pub mod Sizes

@@ -1,9 +1,9 @@
 -- Document 01, "Window and phasors": how many numbers a window has, how bytes hold them, and the first that is missing.
-use Prim.Native.Nat.{ℕ, suc, _+_, _*_, _/_}
+use Prim.Native.Nat.{ℕ, suc, _+_, _*_}
 use mathlib.Core.Path.{_≡_}
-use mathlib.Core.Bool.{Bool, false, cond, _&&_}
+use mathlib.Core.Bool.{Bool, false, cond}
 use mathlib.Core.List.{List, [], _∷_}
-use lib.Dec.{eqb, leb}
+use lib.Dec.{eqb}
 use lib.IntN.{ℤ, pos, negsuc}
 use lib.ListN.{length}
 use Rattle.whole.specs.TwosComplement.{signed}
@@ -29,18 +29,12 @@ numbersOf (high ∷ []) = []
 numbersOf (high ∷ low ∷ bytes) = signed (high * 256 + low) ∷ numbersOf bytes
 
 -- The bytes are those of exactly n numbers; for an odd count there is no n: "an odd byte over makes it another length".
-abbrev pub Holds : ℕ → List ℕ → Type 0
-Holds n bytes = length bytes ≡ 2 * n
-
--- How many numbers are taken out of bytes: none, which is no window's length, where a byte is over, or where they are more than any
--- window has.
-abbrev pub count : List ℕ → ℕ
-count bytes =
-    cond (eqb (2 * (length bytes / 2)) (length bytes) && leb (length bytes / 2) (windowLength 6)) (length bytes / 2) 0
+abbrev pub HoldsNumbers : ℕ → List ℕ → Type 0
+HoldsNumbers n bytes = length bytes ≡ 2 * n
 
 -- "The number -32768 marks a missing sample."
-abbrev pub missing : ℤ
-missing = negsuc 32767
+abbrev pub missingMark : ℤ
+missingMark = negsuc 32767
 
 -- Whether two numbers are the same one.
 abbrev pub same : ℤ → ℤ → Bool
@@ -52,7 +46,7 @@ same (negsuc a) (negsuc b) = eqb a b
 -- The first missing number of a list, counted from k.
 unfoldable pub missingFrom : ℕ → List ℤ → Found
 missingFrom k [] = Nothing
-missingFrom k (x ∷ xs) = cond (same x missing) (At k) (missingFrom (suc k) xs)
+missingFrom k (x ∷ xs) = cond (same x missingMark) (At k) (missingFrom (suc k) xs)
 
 -- Refusal 4: "index in the slice" of the first missing number.
 unfoldable pub firstMissing : List ℤ → Found

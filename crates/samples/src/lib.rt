@@ -4,9 +4,10 @@ ghost use mathlib.Core.Bool.{true};
 ghost use Prim.Native.Nat.{_+_, _*_, _/_, _%_, _≤_};
 ghost use lib.ListN.{length, take};
 ghost use Rattle.whole.specs.TwosComplement.{signed, unsigned};
-ghost use Rattle.samples.specs.Window.{channels, windowLength, numbersOf, count, firstMissing};
+ghost use Rattle.samples.specs.Window.{channels, windowLength, numbersOf, firstMissing};
+ghost use Rattle.samples.specs.Sizes.{count};
 ghost use Rattle.samples.specs.Decoding.{LowFirst, AllLowFirst};
-ghost use Rattle.samples.specs.Order.{Present};
+ghost use Rattle.samples.specs.Order.{NoneMissing};
 
 // How many frames a window has: one cycle.
 pub const FRAMES: usize = 16;
@@ -85,17 +86,17 @@ pub fn numbers(bytes: &[u8], samples: &mut [i16])
 
 // True where no number is missing; false promises nothing, and the search tells. One pass with no way out, which the compiler takes many
 // numbers at a time.
-fn all_present(window: &[i16]) -> bool
-    ensures { λ r. ⌜ (r ≡ true → Present (now (window .entry)) (length (now (window .entry)))) ⌝ }
+fn none_missing(window: &[i16]) -> bool
+    ensures { λ r. ⌜ (r ≡ true → NoneMissing (now (window .entry)) (length (now (window .entry)))) ⌝ }
 {
-    let mut present = true;
+    let mut none = true;
     for i in 0..window.len() {
         let x = window[i];
         if x == MISSING {
-            present = false;
+            none = false;
         }
     }
-    present
+    none
 }
 
 // The first missing sample of a window, frame by frame, and in a frame channel by channel. Where a first pass finds none missing, there is
@@ -104,7 +105,7 @@ pub fn first_missing(window: &[i16], frames: usize, channels: usize) -> Found
     requires { ⌜ length (now window) ≡ frames * channels ⌝ }
     ensures { λ r. ⌜ r ≡ firstMissing (now (window .entry)) ⌝ }
 {
-    if all_present(window) {
+    if none_missing(window) {
         return Found::Nothing;
     }
     let mut found = Found::Nothing;

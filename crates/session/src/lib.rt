@@ -9,7 +9,7 @@ ghost use Rattle.io.specs.Counts.{Counts};
 ghost use Rattle.gorsepetal.specs.Calls.{Proposed, Confirmed};
 
 // Room for the bytes of any window.
-const WINDOW_ROOM: usize = 2 * samples::LONGEST;
+const WINDOW_ROOM: usize = 2 * gorsepetal::LONGEST_WINDOW_NUMBERS;
 
 // Standard output.
 const OUT: i32 = 1;
@@ -19,7 +19,7 @@ const OUT: i32 = 1;
 fn propose(fd: i32, state: &mut [u8]) -> u64
     ensures { λ r. ⌜ ((e : List ℕ) × Proposed (now (state .entry)) e r (now (state .exit))) ⌝ }
 {
-    let mut entry = [0u8; entry::RECORD_LENGTH];
+    let mut entry = [0u8; gorsepetal::RECORD_LENGTH];
     let n = io::read_full(fd, &mut entry);
     gorsepetal::gorsepetal_propose(state, &entry[..n])
 }
@@ -28,7 +28,7 @@ fn propose(fd: i32, state: &mut [u8]) -> u64
 fn confirm(fd: i32, state: &mut [u8]) -> u64
     ensures { λ r. ⌜ ((e : List ℕ) × Confirmed (now (state .entry)) e r (now (state .exit))) ⌝ }
 {
-    let mut entry = [0u8; entry::RECORD_LENGTH];
+    let mut entry = [0u8; gorsepetal::RECORD_LENGTH];
     let n = io::read_full(fd, &mut entry);
     gorsepetal::gorsepetal_confirm(state, &entry[..n])
 }
@@ -54,24 +54,24 @@ fn read(fd: i32, room: &mut [u8], bytes: usize) -> usize
 }
 
 // One window from the input, and its line. Answers false, and prints nothing, where the input has ended.
-fn window(fd: i32, state: &[u8], number: u64) -> bool {
+fn one_window(fd: i32, state: &[u8], number: u64) -> bool {
     let mut samples = [0u8; WINDOW_ROOM];
     let n = read(fd, &mut samples, gorsepetal::window_bytes(state));
     if n == 0 {
         return false;
     }
-    let mut decision = [0u8; decision::LENGTH];
+    let mut decision = [0u8; gorsepetal::DECISION_LENGTH];
     let r = gorsepetal::gorsepetal_decide(state, &samples[..n], &mut decision);
     let mut line = [0u8; report::LINE_LENGTH];
-    let k = report::window(&mut line, number, r, &decision);
+    let k = report::window_line(&mut line, number, r, &decision);
     io::write_all(OUT, &line[..k]);
     true
 }
 
 // Windows to the end of the input, numbered from 1, refused ones counted.
-fn windows(fd: i32, state: &[u8]) {
+fn all_windows(fd: i32, state: &[u8]) {
     let mut number = 1;
-    while number < u64::MAX && window(fd, state, number) {
+    while number < u64::MAX && one_window(fd, state, number) {
         number += 1;
     }
 }
@@ -80,6 +80,6 @@ fn windows(fd: i32, state: &[u8]) {
 pub fn run(fd: i32) {
     let mut state = [0u8; gorsepetal::STATE_LENGTH];
     if accepted(propose(fd, &mut state)) && accepted(confirm(fd, &mut state)) {
-        windows(fd, &state);
+        all_windows(fd, &state);
     }
 }

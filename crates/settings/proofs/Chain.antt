@@ -1,38 +1,47 @@
--- A check on its way along the table: what was found so far and the rules that are left make up what the whole table finds.
+-- A check on its way along the table: the rules one after the other find what the table finds.
 use Prim.Native.Nat.{ℕ}
-use mathlib.Core.Path.{_≡_, refl, _∙_}
+use mathlib.Core.Path.{_≡_, refl, ap, _∙_}
 use mathlib.Core.List.{List, [], _∷_}
 use mathlib.Core.Bool.{Bool, true, false, cond}
+use native.Mathlib.Omega.{arith}
+use lib.ListN.{length, take}
+use lib.Seq.{take-all}
 use Rattle.settings.specs.declared.Checked.{Checked}
 use Rattle.settings.specs.declared.Checked.the-variants.{Good, Bad}
-use Rattle.settings.specs.Table.{Rule, table}
-use Rattle.settings.specs.Check.{holds, place, checkedBy, checked, judged, after}
+use Rattle.settings.specs.Record.{recordLength}
+use Rattle.settings.specs.Table.{Rule, offsetOf, settingsTable}
+use Rattle.settings.specs.Check.{holds, checkedBy, checked, judged, after, afterAll}
 
--- A first fault stays; else the rest decides.
-abbrev on : Checked → Checked → Checked
-on (Bad k) rest = Bad k
-on Good rest = rest
+-- ---- one rule: a first fault stays, else its test decides
 
-pub record Chain (s : List ℕ) (found : Checked) (left : List Rule) : Type 0 where
-  pub finds : on found (checkedBy left s) ≡ checked s
+pub stays : (f : Checked) (k : ℕ) (s : List ℕ) (r : Rule) → f ≡ Bad k → Bad k ≡ after f s r
+unfolding after
+stays f k s r e = rw e
 
-pub start : {s : List ℕ} → Chain s Good table
-start = record { finds = refl }
+pub decides : (f g : Checked) (s : List ℕ) (r : Rule) → f ≡ Good → g ≡ judged (holds s r) (offsetOf r) → g ≡ after f s r
+unfolding after
+decides f g s r e t = rw e t
 
-one-more : (f : Checked) (s : List ℕ) (r : Rule) (rs : List Rule) → on (after f s r) (checkedBy rs s) ≡ on f (checkedBy (r ∷ rs) s)
+-- one rule after another: `search next` finds the calls of a part by their order
+pub next : (f g h : Checked) (s : List ℕ) (r : Rule) → h ≡ after g s r → g ≡ f → h ≡ after f s r
+next f g h s r p q = p ∙ ap (λ x. after x s r) q
+
+-- ---- the rules of a list, one after the other
+
+all-stay : (k : ℕ) (s : List ℕ) (rs : List Rule) → afterAll (Bad k) s rs ≡ Bad k
+unfolding after
+all-stay k s [] = refl
+all-stay k s (r ∷ rs) = all-stay k s rs
+
+along : (s : List ℕ) (rs : List Rule) → afterAll Good s rs ≡ checkedBy rs s
 unfolding after checkedBy
-one-more (Bad k) s r rs = refl
-one-more Good s r rs = by-test (holds s r)
+along s [] = refl
+along s (r ∷ rs) = by-test (holds s r) (along s rs)
   where
-    by-test : (b : Bool) → on (judged b (place r)) (checkedBy rs s) ≡ cond b (checkedBy rs s) (Bad (place r))
-    by-test true = refl
-    by-test false = refl
+    by-test : (b : Bool) → afterAll Good s rs ≡ checkedBy rs s → afterAll (judged b (offsetOf r)) s rs ≡ cond b (checkedBy rs s) (Bad (offsetOf r))
+    by-test true rest = rest
+    by-test false rest = all-stay (offsetOf r) s rs
 
-infixl 5 _▷_
-pub _▷_ : {s : List ℕ} {f g : Checked} {r : Rule} {rs : List Rule} → Chain s f (r ∷ rs) → g ≡ after f s r → Chain s g rs
-_▷_ {s} {f} {g} {r} {rs} c e = record { finds = rw e (one-more f s r rs ∙ c .finds) }
-
-pub end : {s : List ℕ} {f : Checked} → Chain s f [] → f ≡ checked s
-unfolding checkedBy
-end {f = Good} c = c .finds
-end {f = Bad k} c = c .finds
+-- as `check` goes: along the first 32 bytes of a record, which are the whole of it
+pub along-table : (s : List ℕ) {f : Checked} → length s ≡ recordLength → f ≡ afterAll Good (take recordLength s) settingsTable → f ≡ checked s
+along-table s l e = e ∙ along (take recordLength s) settingsTable ∙ ap checked (take-all recordLength s (omega arith))

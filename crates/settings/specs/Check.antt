@@ -10,49 +10,36 @@ use lib.Dec.{leb}
 use Rattle.settings.specs.declared.Checked.{Checked}
 use Rattle.settings.specs.declared.Checked.the-variants.{Good, Bad}
 use Rattle.settings.specs.Record.{fieldAt, signedAt}
-use Rattle.settings.specs.Table.{Rule, Unsigned, Signed, Squares, Below, Byte, table}
+use Rattle.settings.specs.Table.{Rule, Unsigned, Signed, Squares, Below, Byte, offsetOf, settingsTable}
 
 -- From a least to a greatest number.
-abbrev pub within : ℕ → ℕ → ℕ → Bool
-within low high v = leb low v && leb v high
+abbrev pub between : ℕ → ℕ → ℕ → Bool
+between low high v = leb low v && leb v high
 
-abbrev pub withinSigned : ℤ → ℤ → ℤ → Bool
-withinSigned low high v = leZ low v && leZ v high
+abbrev pub betweenSigned : ℤ → ℤ → ℤ → Bool
+betweenSigned low high v = leZ low v && leZ v high
 
 -- Whether a record keeps a rule.
 abbrev pub holds : List ℕ → Rule → Bool
-holds s (Unsigned at low high) = within low high (fieldAt s at)
-holds s (Signed at low high) = withinSigned low high (signedAt s at)
-holds s (Squares x y low high) = within low high (fieldAt s x * fieldAt s x + fieldAt s y * fieldAt s y)
+holds s (Unsigned at low high) = between low high (fieldAt s at)
+holds s (Signed at low high) = betweenSigned low high (signedAt s at)
+holds s (Squares x y low high) = between low high (fieldAt s x * fieldAt s x + fieldAt s y * fieldAt s y)
 holds s (Below x y) = ltZ (signedAt s x) (signedAt s y)
-holds s (Byte at low high) = within low high (getD s at 0)
-
--- The offset at which a fault of it is reported: of a rule on two fields, the later one's.
-abbrev pub place : Rule → ℕ
-place (Unsigned at low high) = at
-place (Signed at low high) = at
-place (Squares x y low high) = y
-place (Below x y) = y
-place (Byte at low high) = at
+holds s (Byte at low high) = between low high (getD s at 0)
 
 -- The first rule of a list that a record breaks.
 unfoldable pub checkedBy : List Rule → List ℕ → Checked
 checkedBy [] s = Good
-checkedBy (r ∷ rs) s = cond (holds s r) (checkedBy rs s) (Bad (place r))
-
--- Every rule of a list holds.
-abbrev pub AllHold : List Rule → List ℕ → Type 0
-AllHold [] s = Unit {0}
-AllHold (r ∷ rs) s = (holds s r ≡ true) × AllHold rs s
+checkedBy (r ∷ rs) s = cond (holds s r) (checkedBy rs s) (Bad (offsetOf r))
 
 -- The first rule of a list that a record breaks is one that is reported at k: "Checks go by offset."
 pub data FirstFault : List Rule → List ℕ → ℕ → Type 0 where
-  here : {r : Rule} {rs : List Rule} {s : List ℕ} → holds s r ≡ false → FirstFault (r ∷ rs) s (place r)
+  here : {r : Rule} {rs : List Rule} {s : List ℕ} → holds s r ≡ false → FirstFault (r ∷ rs) s (offsetOf r)
   later : {r : Rule} {rs : List Rule} {s : List ℕ} {k : ℕ} → holds s r ≡ true → FirstFault rs s k → FirstFault (r ∷ rs) s k
 
 -- What the check of a record finds.
 abbrev pub checked : List ℕ → Checked
-checked s = checkedBy table s
+checked s = checkedBy settingsTable s
 
 -- ---- the same rule by rule, as the code goes
 
@@ -63,4 +50,9 @@ judged kept at = cond kept Good (Bad at)
 -- What was found, with one rule more: a first fault stays.
 unfoldable pub after : Checked → List ℕ → Rule → Checked
 after (Bad k) s r = Bad k
-after Good s r = judged (holds s r) (place r)
+after Good s r = judged (holds s r) (offsetOf r)
+
+-- The same with a part of the table more.
+abbrev pub afterAll : Checked → List ℕ → List Rule → Checked
+afterAll found s [] = found
+afterAll found s (r ∷ rs) = afterAll (after found s r) s rs

@@ -1,59 +1,61 @@
--- Document 01, "Settings record": the fields by name, and the range of each in every good record.
+-- Document 01, "Settings record": the fields by name, each where its row of the table says, and the range of each in every good record.
 use Prim.Native.Nat.{ℕ, _+_, _*_, _≤_}
-use mathlib.Core.Path.{_≡_}
-use mathlib.Core.List.{List}
+use mathlib.Core.List.{List, [], _∷_}
 use lib.ListN.{getD}
-use lib.IntN.{ℤ, pos}
+use lib.IntN.{ℤ}
 use lib.Signed.{_≤ℤ_, _<ℤ_}
-use Rattle.settings.specs.Record.{minus, fieldAt, signedAt}
+use Rattle.settings.specs.Record.{fieldAt, signedAt}
+use Rattle.settings.specs.Table.{Rule, Unsigned, Signed, Squares, Below, Byte, offsetOf, endsRow, slopeRow, pickupRow, replicaRealRow, replicaImaginaryRow, reachRow, kRealRow, kImaginaryRow, angleRealRow, angleImaginaryRow, angleSizeRow, forwardLimitRow, reverseLimitRow, limitsOrderRow, negativeSequencePickupRow, spareRows}
 
 -- N, the ends of the line.
 abbrev pub ends : List ℕ → ℕ
-ends s = fieldAt s 0
+ends s = fieldAt s (offsetOf endsRow)
 
 -- K, percent.
 abbrev pub slope : List ℕ → ℕ
-slope s = fieldAt s 2
+slope s = fieldAt s (offsetOf slopeRow)
 
 -- The differential's pickup, counts.
 abbrev pub pickup : List ℕ → ℕ
-pickup s = fieldAt s 4
+pickup s = fieldAt s (offsetOf pickupRow)
 
 -- The replica impedance Z, thousandths.
 abbrev pub replicaReal : List ℕ → ℕ
-replicaReal s = fieldAt s 6
+replicaReal s = fieldAt s (offsetOf replicaRealRow)
 
 abbrev pub replicaImaginary : List ℕ → ℕ
-replicaImaginary s = fieldAt s 8
+replicaImaginary s = fieldAt s (offsetOf replicaImaginaryRow)
 
 -- r, thousandths of the replica.
 abbrev pub reach : List ℕ → ℕ
-reach s = fieldAt s 10
+reach s = fieldAt s (offsetOf reachRow)
 
 -- k, thousandths.
 abbrev pub kReal : List ℕ → ℕ
-kReal s = fieldAt s 12
+kReal s = fieldAt s (offsetOf kRealRow)
 
 abbrev pub kImaginary : List ℕ → ℤ
-kImaginary s = signedAt s 14
+kImaginary s = signedAt s (offsetOf kImaginaryRow)
 
 -- The line angle D.
 abbrev pub angleReal : List ℕ → ℕ
-angleReal s = fieldAt s 16
+angleReal s = fieldAt s (offsetOf angleRealRow)
 
 abbrev pub angleImaginary : List ℕ → ℕ
-angleImaginary s = fieldAt s 18
+angleImaginary s = fieldAt s (offsetOf angleImaginaryRow)
 
 -- zf and zr.
 abbrev pub forwardLimit : List ℕ → ℤ
-forwardLimit s = signedAt s 20
+forwardLimit s = signedAt s (offsetOf forwardLimitRow)
 
 abbrev pub reverseLimit : List ℕ → ℤ
-reverseLimit s = signedAt s 22
+reverseLimit s = signedAt s (offsetOf reverseLimitRow)
 
 -- The pickup of 3I2, counts.
-abbrev pub negativePickup : List ℕ → ℕ
-negativePickup s = fieldAt s 24
+abbrev pub negativeSequencePickup : List ℕ → ℕ
+negativeSequencePickup s = fieldAt s (offsetOf negativeSequencePickupRow)
+
+-- ---- what it is to keep a rule, as a fact about numbers
 
 -- From a least to a greatest number.
 pub record From (low high v : ℕ) : Type 0 where
@@ -64,21 +66,34 @@ pub record FromSigned (low high v : ℤ) : Type 0 where
   pub least : low ≤ℤ v
   pub most : v ≤ℤ high
 
--- The ranges of the table, by name.
+-- A record keeps a rule.
+abbrev pub Keeps : List ℕ → Rule → Type 0
+Keeps s (Unsigned at low high) = From low high (fieldAt s at)
+Keeps s (Signed at low high) = FromSigned low high (signedAt s at)
+Keeps s (Squares x y low high) = From low high (fieldAt s x * fieldAt s x + fieldAt s y * fieldAt s y)
+Keeps s (Below x y) = signedAt s x <ℤ signedAt s y
+Keeps s (Byte at low high) = From low high (getD s at 0)
+
+-- Every rule of a list is kept.
+abbrev pub AllKept : List Rule → List ℕ → Type 0
+AllKept [] s = Unit {0}
+AllKept (r ∷ rs) s = Keeps s r × AllKept rs s
+
+-- The rows of the table that a record keeps, by name: `ends-range` is that `ends s` is from 2 to 6.
 pub record Ranges (s : List ℕ) : Type 0 where
-  pub ends-range : From 2 6 (ends s)
-  pub slope-range : From 1 100 (slope s)
-  pub pickup-range : From 1 42000 (pickup s)
-  pub replicaReal-range : From 0 20000 (replicaReal s)
-  pub replicaImaginary-range : From 1 20000 (replicaImaginary s)
-  pub reach-range : From 1 2000 (reach s)
-  pub kReal-range : From 0 1000 (kReal s)
-  pub kImaginary-range : FromSigned (minus 500) (pos 500) (kImaginary s)
-  pub angleReal-range : From 0 1000 (angleReal s)
-  pub angleImaginary-range : From 0 1000 (angleImaginary s)
-  pub angle-size : From 998000 1002000 (angleReal s * angleReal s + angleImaginary s * angleImaginary s)
-  pub forwardLimit-range : FromSigned (minus 20000) (pos 20000) (forwardLimit s)
-  pub reverseLimit-range : FromSigned (minus 20000) (pos 20000) (reverseLimit s)
-  pub limits-order : forwardLimit s <ℤ reverseLimit s
-  pub negativePickup-range : From 1 42000 (negativePickup s)
-  pub spare-bytes : (getD s 26 0 ≡ 0) × (getD s 27 0 ≡ 0) × (getD s 28 0 ≡ 0) × (getD s 29 0 ≡ 0) × (getD s 30 0 ≡ 0) × (getD s 31 0 ≡ 0)
+  pub ends-range : Keeps s endsRow
+  pub slope-range : Keeps s slopeRow
+  pub pickup-range : Keeps s pickupRow
+  pub replicaReal-range : Keeps s replicaRealRow
+  pub replicaImaginary-range : Keeps s replicaImaginaryRow
+  pub reach-range : Keeps s reachRow
+  pub kReal-range : Keeps s kRealRow
+  pub kImaginary-range : Keeps s kImaginaryRow
+  pub angleReal-range : Keeps s angleRealRow
+  pub angleImaginary-range : Keeps s angleImaginaryRow
+  pub angle-size : Keeps s angleSizeRow
+  pub forwardLimit-range : Keeps s forwardLimitRow
+  pub reverseLimit-range : Keeps s reverseLimitRow
+  pub limits-order : Keeps s limitsOrderRow
+  pub negativeSequencePickup-range : Keeps s negativeSequencePickupRow
+  pub spare-bytes : AllKept spareRows s

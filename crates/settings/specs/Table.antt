@@ -1,9 +1,10 @@
--- Document 01, "Settings record": the table as data, in the order of the checks. A sum-of-squares fault is at 18 and zf not below zr at
--- 22, each found when that offset's own range has passed; each spare byte is at its own offset.
+-- Document 01, "Settings record": the table as data, in the order of the checks. Each field's row has a name, and it alone says the offset
+-- and the limits: `Fields` takes both from it. A sum-of-squares fault is at 18 and zf not below zr at 22, each found when that offset's own range has
+-- passed; each spare byte is at its own offset.
 use Prim.Native.Nat.{ℕ}
-use mathlib.Core.List.{List, [], _∷_}
+use mathlib.Core.List.{List, [], _∷_, _++_}
 use lib.IntN.{ℤ, pos}
-use Rattle.settings.specs.Record.{minus}
+use Rattle.settings.specs.Record.{negated}
 
 -- One rule of the table.
 pub data Rule : Type 0 where
@@ -18,37 +19,136 @@ pub data Rule : Type 0 where
   -- the byte at an offset, from a least to a greatest number
   Byte : (at low high : ℕ) → Rule
 
-unfoldable pub table : List Rule
-table =
-    -- ends N
-    Unsigned 0 2 6
-    -- slope K, percent
-    ∷ Unsigned 2 1 100
-    -- differential pickup, counts
-    ∷ Unsigned 4 1 42000
-    -- replica impedance real, imaginary, thousandths
-    ∷ Unsigned 6 0 20000
-    ∷ Unsigned 8 1 20000
-    -- reach r, thousandths of the replica
-    ∷ Unsigned 10 1 2000
-    -- k real, imaginary, thousandths
-    ∷ Unsigned 12 0 1000
-    ∷ Signed 14 (minus 500) (pos 500)
-    -- line angle D real, imaginary, and their sum of squares
-    ∷ Unsigned 16 0 1000
-    ∷ Unsigned 18 0 1000
-    ∷ Squares 16 18 998000 1002000
-    -- forward limit zf, reverse limit zr, and zf < zr
-    ∷ Signed 20 (minus 20000) (pos 20000)
-    ∷ Signed 22 (minus 20000) (pos 20000)
-    ∷ Below 20 22
-    -- pickup of 3I2, counts
-    ∷ Unsigned 24 1 42000
-    -- zero bytes
-    ∷ Byte 26 0 0
-    ∷ Byte 27 0 0
-    ∷ Byte 28 0 0
-    ∷ Byte 29 0 0
-    ∷ Byte 30 0 0
-    ∷ Byte 31 0 0
-    ∷ []
+-- The offset of a rule, at which a fault of it is reported: of a rule on two fields, the later one's.
+abbrev pub offsetOf : Rule → ℕ
+offsetOf (Unsigned at low high) = at
+offsetOf (Signed at low high) = at
+offsetOf (Squares x y low high) = y
+offsetOf (Below x y) = y
+offsetOf (Byte at low high) = at
+
+-- ---- the limits that have a name of their own: those of more rows than one, and those from which the layers above reckon how large a
+-- quantity can get
+
+-- ends
+abbrev pub mostEnds : ℕ
+mostEnds = 6
+
+-- the slope, percent
+abbrev pub mostSlope : ℕ
+mostSlope = 100
+
+-- the pickups, counts
+abbrev pub mostCounts : ℕ
+mostCounts = 42000
+
+-- the replica impedance, thousandths
+abbrev pub mostReplica : ℕ
+mostReplica = 20000
+
+-- the reach, thousandths of the replica
+abbrev pub mostReach : ℕ
+mostReach = 2000
+
+-- k real, and imaginary either way from zero, thousandths
+abbrev pub mostKReal : ℕ
+mostKReal = 1000
+
+abbrev pub mostKImaginary : ℕ
+mostKImaginary = 500
+
+-- the line angle D
+abbrev pub mostAngle : ℕ
+mostAngle = 1000
+
+-- the sum of the squares of its two parts
+abbrev pub leastSquares : ℕ
+leastSquares = 998000
+
+abbrev pub mostSquares : ℕ
+mostSquares = 1002000
+
+-- zf and zr, either way from zero
+abbrev pub mostLimit : ℕ
+mostLimit = 20000
+
+-- ---- the rows by name
+
+-- ends N
+abbrev pub endsRow : Rule
+endsRow = Unsigned 0 2 mostEnds
+
+-- slope K, percent
+abbrev pub slopeRow : Rule
+slopeRow = Unsigned 2 1 mostSlope
+
+-- differential pickup, counts
+abbrev pub pickupRow : Rule
+pickupRow = Unsigned 4 1 mostCounts
+
+-- replica impedance real, imaginary, thousandths
+abbrev pub replicaRealRow : Rule
+replicaRealRow = Unsigned 6 0 mostReplica
+
+abbrev pub replicaImaginaryRow : Rule
+replicaImaginaryRow = Unsigned 8 1 mostReplica
+
+-- reach r, thousandths of the replica
+abbrev pub reachRow : Rule
+reachRow = Unsigned 10 1 mostReach
+
+-- k real, imaginary, thousandths
+abbrev pub kRealRow : Rule
+kRealRow = Unsigned 12 0 mostKReal
+
+abbrev pub kImaginaryRow : Rule
+kImaginaryRow = Signed 14 (negated mostKImaginary) (pos mostKImaginary)
+
+-- line angle D real, imaginary, and their sum of squares
+abbrev pub angleRealRow : Rule
+angleRealRow = Unsigned 16 0 mostAngle
+
+abbrev pub angleImaginaryRow : Rule
+angleImaginaryRow = Unsigned 18 0 mostAngle
+
+abbrev pub angleSizeRow : Rule
+angleSizeRow = Squares (offsetOf angleRealRow) (offsetOf angleImaginaryRow) leastSquares mostSquares
+
+-- forward limit zf, reverse limit zr, and zf < zr
+abbrev pub forwardLimitRow : Rule
+forwardLimitRow = Signed 20 (negated mostLimit) (pos mostLimit)
+
+abbrev pub reverseLimitRow : Rule
+reverseLimitRow = Signed 22 (negated mostLimit) (pos mostLimit)
+
+abbrev pub limitsOrderRow : Rule
+limitsOrderRow = Below (offsetOf forwardLimitRow) (offsetOf reverseLimitRow)
+
+-- pickup of 3I2, counts
+abbrev pub negativeSequencePickupRow : Rule
+negativeSequencePickupRow = Unsigned 24 1 mostCounts
+
+-- ---- the parts of the table: the code has one function for each
+
+abbrev pub differentialRows : List Rule
+differentialRows = endsRow ∷ slopeRow ∷ pickupRow ∷ []
+
+abbrev pub distanceRows : List Rule
+distanceRows = replicaRealRow ∷ replicaImaginaryRow ∷ reachRow ∷ kRealRow ∷ kImaginaryRow ∷ []
+
+abbrev pub angleRows : List Rule
+angleRows = angleRealRow ∷ angleImaginaryRow ∷ angleSizeRow ∷ []
+
+abbrev pub directionRows : List Rule
+directionRows = forwardLimitRow ∷ reverseLimitRow ∷ limitsOrderRow ∷ negativeSequencePickupRow ∷ []
+
+-- zero bytes, so far without a use
+abbrev pub spareRows : List Rule
+spareRows = Byte 26 0 0 ∷ Byte 27 0 0 ∷ Byte 28 0 0 ∷ Byte 29 0 0 ∷ Byte 30 0 0 ∷ Byte 31 0 0 ∷ []
+
+-- bytes 26 to 31: a field that takes some of them up stands here, before those that are still spare
+abbrev pub tailRows : List Rule
+tailRows = spareRows
+
+unfoldable pub settingsTable : List Rule
+settingsTable = differentialRows ++ distanceRows ++ angleRows ++ directionRows ++ tailRows

@@ -3,13 +3,41 @@ ghost use mathlib.Core.Path.{_≡_};
 ghost use Prim.Native.Nat.{_+_, _*_, _<_};
 ghost use lib.ListN.{length, getD};
 ghost use Rattle.settings.specs.Record.{recordLength, fieldAt, signedAt};
-ghost use Rattle.settings.specs.Table.{Unsigned, Signed, Squares, Below, Byte};
-ghost use Rattle.settings.specs.Check.{within, withinSigned, judged, after, checked};
+ghost use Rattle.settings.specs.Table.{Unsigned, Signed, Squares, Below, Byte, differentialRows, distanceRows, angleRows, directionRows, tailRows};
+ghost use Rattle.settings.specs.Check.{between, betweenSigned, judged, after, afterAll, checked};
 
+pub mod at; // the offsets by name
 pub mod fields; // the fields by name
 
 // How many bytes a record has; `entry` says the same of any record entered twice.
 const LENGTH: usize = 32;
+
+// The limits that have a name in the table, and the lower ones of signed fields.
+const MOST_ENDS: u64 = 6;
+
+const MOST_SLOPE: u64 = 100;
+
+const MOST_COUNTS: u64 = 42000;
+
+const MOST_REPLICA: u64 = 20000;
+
+const MOST_REACH: u64 = 2000;
+
+const MOST_K_REAL: u64 = 1000;
+
+const LEAST_K_IMAGINARY: i64 = -500;
+
+const MOST_K_IMAGINARY: i64 = 500;
+
+const MOST_ANGLE: u64 = 1000;
+
+const LEAST_SQUARES: u64 = 998000;
+
+const MOST_SQUARES: u64 = 1002000;
+
+const LEAST_LIMIT: i64 = -20000;
+
+const MOST_LIMIT: i64 = 20000;
 
 // What a check finds: a good record, or the offset of the first fault.
 pub enum Checked {
@@ -51,14 +79,14 @@ pub fn signed_field(s: &[u8], at: u8) -> i64
 
 // From a least to a greatest number.
 fn between(v: u64, low: u64, high: u64) -> bool
-    ensures { λ r. ⌜ r ≡ within low high v ⌝ }
+    ensures { λ r. ⌜ r ≡ between low high v ⌝ }
 {
     if low <= v { v <= high } else { false }
 }
 
 // The same of signed numbers.
 fn between_signed(v: i64, low: i64, high: i64) -> bool
-    ensures { λ r. ⌜ r ≡ withinSigned low high v ⌝ }
+    ensures { λ r. ⌜ r ≡ betweenSigned low high v ⌝ }
 {
     if low <= v { v <= high } else { false }
 }
@@ -139,33 +167,81 @@ fn byte_rule(found: Checked, s: &[u8], at: u8, low: u64, high: u64) -> Checked
     }
 }
 
-// The first fault of a record: the rules of the table, in its order.
+// The parts of the table, one function each: its rules in its order, gone on from what the earlier parts found.
+
+// N, and the differential's settings.
+fn differential_part(found: Checked, s: &[u8]) -> Checked
+    ensures { λ r. ⌜ r ≡ afterAll found (now (s .entry)) differentialRows ⌝ }
+{
+    let found = unsigned_rule(found, s, at::ENDS, 2, MOST_ENDS);
+    let found = unsigned_rule(found, s, at::SLOPE, 1, MOST_SLOPE);
+    unsigned_rule(found, s, at::PICKUP, 1, MOST_COUNTS)
+}
+
+// The line's impedance, the reach and k.
+fn distance_part(found: Checked, s: &[u8]) -> Checked
+    ensures { λ r. ⌜ r ≡ afterAll found (now (s .entry)) distanceRows ⌝ }
+{
+    let found = unsigned_rule(found, s, at::REPLICA_REAL, 0, MOST_REPLICA);
+    let found = unsigned_rule(found, s, at::REPLICA_IMAGINARY, 1, MOST_REPLICA);
+    let found = unsigned_rule(found, s, at::REACH, 1, MOST_REACH);
+    let found = unsigned_rule(found, s, at::K_REAL, 0, MOST_K_REAL);
+    signed_rule(
+        found,
+        s,
+        at::K_IMAGINARY,
+        LEAST_K_IMAGINARY,
+        MOST_K_IMAGINARY,
+    )
+}
+
+// The line angle D.
+fn angle_part(found: Checked, s: &[u8]) -> Checked
+    ensures { λ r. ⌜ r ≡ afterAll found (now (s .entry)) angleRows ⌝ }
+{
+    let found = unsigned_rule(found, s, at::ANGLE_REAL, 0, MOST_ANGLE);
+    let found = unsigned_rule(found, s, at::ANGLE_IMAGINARY, 0, MOST_ANGLE);
+    squares_rule(
+        found,
+        s,
+        at::ANGLE_REAL,
+        at::ANGLE_IMAGINARY,
+        LEAST_SQUARES,
+        MOST_SQUARES,
+    )
+}
+
+// zf, zr and the pickup of 3I2.
+fn direction_part(found: Checked, s: &[u8]) -> Checked
+    ensures { λ r. ⌜ r ≡ afterAll found (now (s .entry)) directionRows ⌝ }
+{
+    let found = signed_rule(found, s, at::FORWARD_LIMIT, LEAST_LIMIT, MOST_LIMIT);
+    let found = signed_rule(found, s, at::REVERSE_LIMIT, LEAST_LIMIT, MOST_LIMIT);
+    let found = below_rule(found, s, at::FORWARD_LIMIT, at::REVERSE_LIMIT);
+    unsigned_rule(found, s, at::NEGATIVE_SEQUENCE_PICKUP, 1, MOST_COUNTS)
+}
+
+// The last bytes: zero so far.
+fn tail_part(found: Checked, s: &[u8]) -> Checked
+    ensures { λ r. ⌜ r ≡ afterAll found (now (s .entry)) tailRows ⌝ }
+{
+    let found = byte_rule(found, s, 26, 0, 0);
+    let found = byte_rule(found, s, 27, 0, 0);
+    let found = byte_rule(found, s, 28, 0, 0);
+    let found = byte_rule(found, s, 29, 0, 0);
+    let found = byte_rule(found, s, 30, 0, 0);
+    byte_rule(found, s, 31, 0, 0)
+}
+
+// The first fault of a record: the parts of the table, in its order.
 pub fn check(s: &[u8]) -> Checked
     requires { ⌜ length (now s) ≡ recordLength ⌝ }
     ensures { λ r. ⌜ r ≡ checked (now (s .entry)) ⌝ }
 {
     let record = &s[0..LENGTH]; // a slice whose length the compiler knows, so that no byte's place is tested
-    let found = Checked::Good;
-    let found = unsigned_rule(found, record, 0, 2, 6); // ends N
-    let found = unsigned_rule(found, record, 2, 1, 100); // slope K, percent
-    let found = unsigned_rule(found, record, 4, 1, 42000); // differential pickup, counts
-    let found = unsigned_rule(found, record, 6, 0, 20000); // replica impedance real, thousandths
-    let found = unsigned_rule(found, record, 8, 1, 20000); // and imaginary
-    let found = unsigned_rule(found, record, 10, 1, 2000); // reach r, thousandths of the replica
-    let found = unsigned_rule(found, record, 12, 0, 1000); // k real, thousandths
-    let found = signed_rule(found, record, 14, -500, 500); // and imaginary
-    let found = unsigned_rule(found, record, 16, 0, 1000); // line angle D real
-    let found = unsigned_rule(found, record, 18, 0, 1000); // and imaginary
-    let found = squares_rule(found, record, 16, 18, 998000, 1002000); // their sum of squares
-    let found = signed_rule(found, record, 20, -20000, 20000); // forward limit zf
-    let found = signed_rule(found, record, 22, -20000, 20000); // reverse limit zr
-    let found = below_rule(found, record, 20, 22); // zf < zr
-    let found = unsigned_rule(found, record, 24, 1, 42000); // pickup of 3I2, counts
-    let found = byte_rule(found, record, 26, 0, 0); // zero bytes
-    let found = byte_rule(found, record, 27, 0, 0);
-    let found = byte_rule(found, record, 28, 0, 0);
-    let found = byte_rule(found, record, 29, 0, 0);
-    let found = byte_rule(found, record, 30, 0, 0);
-    let found = byte_rule(found, record, 31, 0, 0);
-    found
+    let found = differential_part(Checked::Good, record);
+    let found = distance_part(found, record);
+    let found = angle_part(found, record);
+    let found = direction_part(found, record);
+    tail_part(found, record)
 }

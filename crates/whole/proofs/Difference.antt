@@ -3,7 +3,7 @@
 -- `d-le`, `d-lt` and `d-eq` then prove a goal over ℤ by `omega`, and `of-le`, `of-lt` and `of-eq` hand it the facts.
 use mathlib.Core.Path.{_≡_, refl, ap}
 use mathlib.Core.Logic.{_↔_}
-use mathlib.Core.Bool.{Bool, true, false, not, cond}
+use mathlib.Core.Bool.{true, false, not, cond}
 use Prim.Native.Nat.{ℕ, zero, suc, _+_, _*_, _-_, _≤_, _<_}
 use native.Mathlib.Omega.{arith}
 use lib.Dec.{T, ltb, ltb→lt, nltb→le, leb→le, le→leb}
@@ -31,11 +31,9 @@ neg-is (pos (suc n)) = omega arith
 neg-is (negsuc n) = omega arith
 
 sub-is : (a b : ℕ) → Is (subℕ a b) a b
-sub-is a b = by-test (ltb a b) (ltb→lt a b) (nltb→le a b)
-  where
-    by-test : (c : Bool) → (T c → a < b) → (T (not c) → b ≤ a) → Is (cond c (negsuc (b - suc a)) (pos (a - b))) a b
-    by-test true f g = let h : a < b = f tt in omega arith
-    by-test false f g = let h : b ≤ a = g tt in omega arith
+sub-is a b =
+    elim (ltb a b) as (λ c. (T c → a < b) → (T (not c) → b ≤ a) → Is (cond c (negsuc (b - suc a)) (pos (a - b))) a b)
+    [ true ↦ λ f g. omega (arith, f tt) | false ↦ λ f g. omega (arith, g tt) ] (ltb→lt a b) (nltb→le a b)
 
 pub add-is : (x y : ℤ) → Is (x +ℤ y) (up x + up y) (down x + down y)
 add-is (pos a) (pos b) = omega arith
@@ -67,11 +65,10 @@ abbrev pub d-negsuc : (n : ℕ) → Diff (negsuc n)
 d-negsuc n = record { plus = 0; minus = suc n; is = refl }
 
 abbrev pub d-neg : {a : ℤ} → Diff a → Diff (negℤ a)
-d-neg {a} x = record { plus = x .minus; minus = x .plus; is = omega (arith, neg-is a, x .is) }
+d-neg {a} x = record { plus = x .minus; minus = x .plus; is = omega (arith, neg-is a) }
 
 abbrev pub d-add : {a b : ℤ} → Diff a → Diff b → Diff (a +ℤ b)
-d-add {a} {b} x y =
-    record { plus = x .plus + y .plus; minus = x .minus + y .minus; is = omega (arith, add-is a b, x .is, y .is) }
+d-add {a} {b} x y = record { plus = x .plus + y .plus; minus = x .minus + y .minus; is = omega (arith, add-is a b) }
 
 abbrev pub d-mul : {a b : ℤ} → Diff a → Diff b → Diff (a *ℤ b)
 d-mul {a} {b} x y =
@@ -88,8 +85,7 @@ pub record Sides (a b : ℤ) : Type 0 where
   pub is : up a + down b + upper ≡ up b + down a + lower
 
 abbrev pub d-sides : {a b : ℤ} → Diff a → Diff b → Sides a b
-d-sides x y =
-    record { lower = x .plus + y .minus; upper = y .plus + x .minus; is = omega (arith, x .is, y .is) }
+d-sides x y = record { lower = x .plus + y .minus; upper = y .plus + x .minus; is = omega arith }
 
 pub ruleset diff = (d-pos, d-negsuc, d-neg, d-add, d-mul, d-sides)
 
@@ -108,19 +104,19 @@ eq-in (negsuc a) (pos b) e = absurd (omega arith)
 eq-in (negsuc a) (negsuc b) e = ap negsuc (omega arith)
 
 pub d-le : {a b : ℤ} (k : Sides a b) → k .lower ≤ k .upper → a ≤ℤ b
-d-le {a} {b} k h = orders a b .0 .1 (omega (arith, k .is))
+d-le {a} {b} k h = orders a b .0 .1 (omega arith)
 
 pub d-lt : {a b : ℤ} (k : Sides a b) → k .lower < k .upper → a <ℤ b
-d-lt {a} {b} k h = orders a b .1 .1 (omega (arith, k .is))
+d-lt {a} {b} k h = orders a b .1 .1 (omega arith)
 
 pub d-eq : {a b : ℤ} (k : Sides a b) → k .lower ≡ k .upper → a ≡ b
-d-eq {a} {b} k h = eq-in a b (omega (arith, k .is))
+d-eq {a} {b} k h = eq-in a b (omega arith)
 
 pub of-le : {a b : ℤ} → a ≤ℤ b → (k : Sides a b) → k .lower ≤ k .upper
-of-le {a} {b} h k = omega (arith, k .is, orders a b .0 .0 h)
+of-le {a} {b} h k = omega (arith, orders a b .0 .0 h)
 
 pub of-lt : {a b : ℤ} → a <ℤ b → (k : Sides a b) → k .lower < k .upper
-of-lt {a} {b} h k = omega (arith, k .is, orders a b .1 .0 h)
+of-lt {a} {b} h k = omega (arith, orders a b .1 .0 h)
 
 pub of-eq : {a b : ℤ} → a ≡ b → (k : Sides a b) → k .lower ≡ k .upper
-of-eq e k = omega (arith, k .is, ap up e, ap down e)
+of-eq e k = omega (arith, ap up e, ap down e)

@@ -1,10 +1,10 @@
 -- What operations on i64 give, as facts about the numbers: tests, and the quotient toward zero.
 use mathlib.Core.Path.{_≡_}
 use mathlib.Core.Bool.{true, false}
-use Prim.Native.Nat.{ℕ, zero, suc, _-_, _/_, _^_, _≤_, _<_}
+use Prim.Native.Nat.{suc, _/_, _^_, _<_}
 use native.Mathlib.Nat.{div-le-self}
 use native.Mathlib.Omega.{arith}
-use lib.IntN.{ℤ, pos, negsuc, negℤ}
+use lib.IntN.{ℤ, pos, negsuc}
 use lib.Dec.{not-T, ltb→lt}
 use lib.Signed.{_≤ℤ_, _<ℤ_, leZ, ltZ, ltZ-no, leZ-yes, ltZ-yes, mag, quotZ}
 use borrow.Author.Tests.{not-true}
@@ -12,9 +12,14 @@ use denote.Floats.{is-true}
 use mir.Syntax.{w64}
 use mir.Val.{SFits, toZ, ofZ}
 use mir.Facts.{toZ-ofZ}
+use Rattle.whole.proofs.Size.{neg-sizes}
 
--- what the machine reads back of a call's result: `back (c .f .result) (c .f .ok)`, for `simp`
-pub back : (z : ℤ) → mag z < 2 ^ 63 → toZ w64 (ofZ w64 z) ≡ z
+-- what the machine reads back of a number's bits
+abbrev pub Read : ℤ → ℤ
+Read z = toZ w64 (ofZ w64 z)
+
+-- of a call's result: `back (c .f .result) (c .f .ok)`, for `simp`
+pub back : (z : ℤ) → mag z < 2 ^ 63 → Read z ≡ z
 back z h = toZ-ofZ (record { sfits = h })
 
 -- ---- tests: what a branch knows of x < y and of x <= y
@@ -38,21 +43,13 @@ false-lt {x} {y} h = not-true (ltZ x y) (is-true _ (not-T (ltZ x y) (λ t. h (lt
 pub true-le : {x y : ℤ} → x ≤ℤ y → leZ x y ≡ true
 true-le h = is-true _ (h .le)
 
--- ---- a quotient toward zero is no larger than the dividend
+-- ---- division: a divisor above 0 is not 0 as bits, and a quotient toward zero is no larger than the dividend
 
--- a divisor above 0 is not 0 as bits
 pub divisor : (d : ℤ) → pos 0 <ℤ d → 0 < ofZ w64 d
 divisor (pos n) h = omega (arith, ltb→lt)
 divisor (negsuc n) h = absurd (h .lt)
 
 pub quot-fits : {s d : ℤ} → pos 0 <ℤ d → SFits w64 s → SFits w64 (quotZ s d)
-quot-fits {s} {d} h f = record { sfits = omega (arith, quot-mag s d h, f .sfits) }
-  where
-    neg-mag : (n : ℕ) → mag (negℤ (pos n)) ≤ n - 1
-    neg-mag zero = omega arith
-    neg-mag (suc n) = omega arith
-
-    quot-mag : (s d : ℤ) → pos 0 <ℤ d → mag (quotZ s d) ≤ mag s
-    quot-mag (pos a) (pos b) h = div-le-self a b
-    quot-mag (negsuc a) (pos b) h = omega (arith, neg-mag (suc a / b), div-le-self (suc a) b)
-    quot-mag s (negsuc b) h = absurd (h .lt)
+quot-fits {s = pos a} {d = pos b} h f = omega (arith, div-le-self a b)
+quot-fits {s = negsuc a} {d = pos b} h f = omega (arith, neg-sizes (suc a / b), div-le-self (suc a) b)
+quot-fits {d = negsuc b} h f = absurd (h .lt)

@@ -21,8 +21,6 @@ pub ≤-antisym : {a b : ℤ} → a ≤ℤ b → b ≤ℤ a → a ≡ b
 pub ≤-unless : (a b : ℤ) → (b <ℤ a → ⊥) → a ≤ℤ b
 ≤-unless a b f = ltZ-no (not-T (ltZ b a) (λ t. f (ltZ-yes t)))
 
--- ---- squares
-
 -- squares in order, with the larger number not negative, have their numbers in order
 pub sq-≤ : (t s : ℤ) → pos 0 ≤ℤ s → (t *ℤ t) ≤ℤ (s *ℤ s) → t ≤ℤ s
 sq-≤ t s p h =

@@ -1,7 +1,7 @@
 -- Polynomials over whole numbers, in a form that computes: sums, products, and the monomials that are left of one.
 -- `nothing-total`: a polynomial of which nothing is left comes to 0, whatever the unknowns are.
 use mathlib.Core.Path.{_≡_, refl, _∙_}
-use mathlib.Core.List.{List, [], _∷_, _++_}
+use mathlib.Core.List.{List, [], _∷_}
 use Prim.Native.Nat.{ℕ, zero, suc}
 use native.Mathlib.Omega.{arith}
 use lib.IntN.{ℤ, pos, negsuc, negℤ, _+ℤ_, _*ℤ_, +ℤ-assoc, +ℤ-comm, +ℤ-idr, *ℤ-zero}
@@ -30,21 +30,14 @@ times (con c) (con d) = con (c *ℤ d)
 times (con c) (more b a) = more (times (con c) b) (times (con c) a)
 times (more b a) q = plus (each (times b) q) (more (con (pos 0)) (times a q))
 
--- the unknown at place i
-abbrev pub unknown : ℕ → Poly
-unknown zero = more (con (pos 0)) (con (pos 1))
-unknown (suc i) = more (unknown i) (con (pos 0))
-
 -- ---- what is left: monomials, each a coefficient that is not 0 and the places of the factors
 
-abbrev monomial : ℤ → List ℕ → List (ℤ × List ℕ)
-monomial (pos zero) m = []
-monomial (pos (suc n)) m = (pos (suc n), m) ∷ []
-monomial (negsuc n) m = (negsuc n, m) ∷ []
-
-abbrev monomials : ℕ → List ℕ → Poly → List (ℤ × List ℕ)
-monomials i m (con c) = monomial c m
-monomials i m (more b a) = monomials (suc i) m b ++ monomials i (i ∷ m) a
+-- those of a polynomial in the unknowns from place i on, times m, and then others
+abbrev monomials : ℕ → List ℕ → Poly → List (ℤ × List ℕ) → List (ℤ × List ℕ)
+monomials i m (con (pos zero)) others = others
+monomials i m (con (pos (suc n))) others = (pos (suc n), m) ∷ others
+monomials i m (con (negsuc n)) others = (negsuc n, m) ∷ others
+monomials i m (more b a) others = monomials (suc i) m b (monomials i (i ∷ m) a others)
 
 -- nothing proves `Left`: a refusal prints what is left
 pub data Left (ms : List (ℤ × List ℕ)) : Type 0 where
@@ -55,7 +48,7 @@ None (m ∷ ms) = Left (m ∷ ms)
 
 -- nothing is left of p: `tt` proves it, by computation
 abbrev pub Nothing : Poly → Type 0
-Nothing p = None (monomials 0 [] p)
+Nothing p = None (monomials 0 [] p [])
 
 -- ---- the identities of ℤ that the steps above rest on
 
@@ -69,8 +62,11 @@ scaled c b x a = let dc = d-atom c in let db = d-atom b in let dx = d-atom x in 
 split : (b x a q : ℤ) → b *ℤ q +ℤ (pos 0 +ℤ x *ℤ (a *ℤ q)) ≡ (b +ℤ x *ℤ a) *ℤ q
 split b x a q = let db = d-atom b in let dx = d-atom x in let da = d-atom a in let dq = d-atom q in d-eq (search diff) (omega arith)
 
-alone : (x : ℤ) → pos 0 +ℤ x *ℤ pos 1 ≡ x
+pub alone : (x : ℤ) → pos 0 +ℤ x *ℤ pos 1 ≡ x
 alone x = let dx = d-atom x in d-eq (search diff) (omega arith)
+
+pub minus-one : (x : ℤ) → negsuc 0 *ℤ x ≡ negℤ x
+minus-one x = let dx = d-atom x in d-eq (search diff) (omega arith)
 
 -- ---- what a polynomial comes to where the unknowns are v 0, v 1, ..; each step keeps it
 
@@ -100,25 +96,16 @@ times-total v (more b a) q =
     plus-total v (each (times b) q) (more (con (pos 0)) (times a q))
     ∙ rw (each-total v (times b) (total (after v) b) (times-total (after v) b) q, times-total v a q, split)
 
-pub opposite-total : (v : ℕ → ℤ) (p : Poly) → total v (times (con (negsuc 0)) p) ≡ negℤ (total v p)
-opposite-total v p =
-    times-total v (con (negsuc 0)) p ∙ (let dt = d-atom (total v p) in d-eq (search diff) (omega arith))
-
-pub unknown-total : (v : ℕ → ℤ) (i : ℕ) → total v (unknown i) ≡ v i
-unknown-total v zero = alone (v 0)
-unknown-total v (suc i) = rw (*ℤ-zero, +ℤ-idr) (unknown-total (after v) i)
-
-halves : (ms ns : List (ℤ × List ℕ)) → None (ms ++ ns) → None ms × None ns
-halves [] ns s = (tt, s)
-halves (m ∷ ms) ns s = elim s [ ]
-
 pub nothing-total : (v : ℕ → ℤ) (p : Poly) → Nothing p → total v p ≡ pos 0
-nothing-total v p s = from v 0 [] p s
+nothing-total v p s = from v 0 [] p [] s .0
   where
-    from : (v : ℕ → ℤ) (i : ℕ) (m : List ℕ) (p : Poly) → None (monomials i m p) → total v p ≡ pos 0
-    from v i m (con (pos zero)) s = refl
-    from v i m (con (pos (suc n))) s = elim s [ ]
-    from v i m (con (negsuc n)) s = elim s [ ]
-    from v i m (more b a) s =
-        let h = halves (monomials (suc i) m b) (monomials i (i ∷ m) a) s in
-        rw (from (after v) (suc i) m b (h .0), from v i (i ∷ m) a (h .1), *ℤ-zero)
+    from :
+        (v : ℕ → ℤ) (i : ℕ) (m : List ℕ) (p : Poly) (others : List (ℤ × List ℕ)) → None (monomials i m p others) →
+        (total v p ≡ pos 0) × None others
+    from v i m (con (pos zero)) others s = (refl, s)
+    from v i m (con (pos (suc n))) others s = elim s [ ]
+    from v i m (con (negsuc n)) others s = elim s [ ]
+    from v i m (more b a) others s =
+        let h = from (after v) (suc i) m b (monomials i (i ∷ m) a others) s in
+        let k = from v i (i ∷ m) a others (h .1) in
+        (rw (h .0, k .0, *ℤ-zero), k .1)

@@ -10,12 +10,12 @@ use lib.IntN.{ℤ, pos, negsuc, negℤ, natAbs, _+ℤ_, _-ℤ_, _*ℤ_}
 use lib.Signed.{_≤ℤ_, _<ℤ_, quotZ, remZ, shrZ}
 use mir.Syntax.{w64}
 use mir.Val.{SFits}
-use Rattle.whole.specs.Range.{Within}
+use Rattle.whole.specs.Sizes.{Within}
 use Rattle.whole.proofs.Difference.{diff, d-eq, d-lt}
 use Rattle.whole.proofs.Certificate.{quo, ring!, le!, lt!, g-le, g-lt, g-eq, g-num, _⊞_}
 use Rattle.whole.proofs.Order.{≤-antisym}
-use Rattle.whole.proofs.Size.{abs-of, mag-le}
-use Rattle.whole.proofs.Rounding.{floor-low, floor-high, at-most}
+use Rattle.whole.proofs.Size.{abs-of, sizes}
+use Rattle.whole.proofs.Rounding.{floor, at-most}
 
 -- what is left
 abbrev pub rest : ℤ → ℤ → ℤ
@@ -23,57 +23,54 @@ rest s d = s -ℤ d *ℤ shrZ s (natAbs d)
 
 pub record Remainder (s d : ℤ) : Type 0 where
   -- a negative remainder of the machine's is d too small, any other is right
-  pub negative : remZ s d <ℤ pos 0 → remZ s d +ℤ d ≡ rest s d
+  pub below-zero : remZ s d <ℤ pos 0 → remZ s d +ℤ d ≡ rest s d
   pub other : pos 0 ≤ℤ remZ s d → remZ s d ≡ rest s d
   -- it is no larger than d, and d goes into what was taken off exactly
   pub within : Within (natAbs d) (rest s d)
   pub fits : SFits w64 d → SFits w64 (rest s d)
   pub quotient : quotZ (s -ℤ rest s d) d ≡ shrZ s (natAbs d)
 
--- ---- the machine's quotient and remainder
+-- the machine's quotient and remainder make up s, and the remainder is smaller than the divisor
+machine :
+    (s : ℤ) (b : ℕ) → 0 < b →
+    (s ≡ pos b *ℤ quotZ s (pos b) +ℤ remZ s (pos b)) × (negℤ (pos b) <ℤ remZ s (pos b)) × (remZ s (pos b) <ℤ pos b)
+machine (pos a) b p =
+    let e = div-add-mod a b in let l = mod-lt a p in
+    (d-eq (search diff) (omega arith), d-lt (search diff) (omega arith), d-lt (search diff) (omega arith))
+machine (negsuc a) b p =
+    let e = div-add-mod (suc a) b in let l = mod-lt (suc a) p in
+    (d-eq (search diff) (omega arith), d-lt (search diff) (omega arith), d-lt (search diff) (omega arith))
 
-divided : (s : ℤ) (b : ℕ) → s ≡ pos b *ℤ quotZ s (pos b) +ℤ remZ s (pos b)
-divided (pos a) b = d-eq (search diff) (omega (arith, div-add-mod a b))
-divided (negsuc a) b = d-eq (search diff) (omega (arith, div-add-mod (suc a) b))
-
-rem-size : (s : ℤ) (b : ℕ) → 0 < b → (negℤ (pos b) <ℤ remZ s (pos b)) × (remZ s (pos b) <ℤ pos b)
-rem-size (pos a) b p = (d-lt (search diff) (omega arith), d-lt (search diff) (omega (arith, mod-lt a p)))
-rem-size (negsuc a) b p = (d-lt (search diff) (omega (arith, mod-lt (suc a) p)), d-lt (search diff) (omega arith))
-
--- ---- what is left
-
-module _ (s : ℤ) (b : ℕ) (p : 0 < b) where
-  -- a number from 0 to b - 1 that makes up s with a multiple of b is what is left
-  left-is : (q r : ℤ) → s ≡ pos b *ℤ q +ℤ r → pos 0 ≤ℤ r → r <ℤ pos b → r ≡ rest s (pos b)
-  left-is q r e low high =
-      let f = shrZ s b in
-      let same : f ≡ q = ≤-antisym
-      (at-most b f q (lt! (s ∷ pos b ∷ q ∷ r ∷ f ∷ []) (g-le (floor-low s b p) ⊞ g-lt high ⊞ g-eq e (pos 1)) (search quo depth 40) tt))
-      (at-most b q f (lt! (s ∷ pos b ∷ q ∷ r ∷ f ∷ []) (g-lt (floor-high s b p) ⊞ low ⊞ g-eq e (negsuc 0)) (search quo depth 40) tt)) in
-      rw (same, e) (ring! (pos b ∷ q ∷ r ∷ []) (search quo depth 40) tt)
+-- a number from 0 to b - 1 that makes up s with a multiple of b is what is left
+left-is : (s : ℤ) (b : ℕ) → 0 < b → (q r : ℤ) → s ≡ pos b *ℤ q +ℤ r → pos 0 ≤ℤ r → r <ℤ pos b → r ≡ rest s (pos b)
+left-is s b p q r e low high =
+    let f = shrZ s b in
+    let same : f ≡ q = ≤-antisym
+    (at-most b f q (lt! (s ∷ pos b ∷ q ∷ r ∷ f ∷ []) (g-le (floor s b p .0) ⊞ g-lt high ⊞ g-eq e (pos 1)) (search quo depth 40) tt))
+    (at-most b q f (lt! (s ∷ pos b ∷ q ∷ r ∷ f ∷ []) (g-lt (floor s b p .1) ⊞ low ⊞ g-eq e (negsuc 0)) (search quo depth 40) tt)) in
+    rw (same, e) (ring! (pos b ∷ q ∷ r ∷ []) (search quo depth 40) tt)
 
 pub remainder : (s d : ℤ) → pos 0 <ℤ d → Remainder s d
 remainder s (negsuc b) h = absurd (h .lt)
 remainder s (pos b) h =
     let p : 0 < b = omega (arith, ltb→lt) in
-    let q = quotZ s (pos b) in
-    let r = remZ s (pos b) in
+    let q = quotZ s (pos b) in let r = remZ s (pos b) in
     let small : Within b (rest s (pos b)) = abs-of
-    (le! (s ∷ pos b ∷ shrZ s b ∷ []) (g-le (floor-low s b p) ⊞ g-num b) (search quo depth 40) tt)
-    (le! (s ∷ pos b ∷ shrZ s b ∷ []) (g-lt (floor-high s b p) ⊞ g-num 1) (search quo depth 40) tt) in
+    (le! (s ∷ pos b ∷ shrZ s b ∷ []) (g-le (floor s b p .0) ⊞ g-num b) (search quo depth 40) tt)
+    (le! (s ∷ pos b ∷ shrZ s b ∷ []) (g-lt (floor s b p .1) ⊞ g-num 1) (search quo depth 40) tt) in
     record {
-      negative = λ k. left-is s b p (q -ℤ pos 1) (r +ℤ pos b)
-          (divided s b ∙ ring! (pos b ∷ q ∷ r ∷ []) (search quo depth 40) tt)
-          (le! (pos b ∷ r ∷ []) (g-lt (rem-size s b p .0) ⊞ g-num 1) (search quo depth 40) tt)
+      below-zero = λ k. left-is s b p (q -ℤ pos 1) (r +ℤ pos b)
+          (machine s b p .0 ∙ ring! (pos b ∷ q ∷ r ∷ []) (search quo depth 40) tt)
+          (le! (pos b ∷ r ∷ []) (g-lt (machine s b p .1) ⊞ g-num 1) (search quo depth 40) tt)
           (lt! (pos b ∷ r ∷ []) (g-lt k) (search quo depth 40) tt);
-      other = λ k. left-is s b p q r (divided s b) k (rem-size s b p .1);
+      other = λ k. left-is s b p q r (machine s b p .0) k (machine s b p .2);
       within = small;
-      fits = λ f. record { sfits = omega (arith, mag-le (rest s (pos b)), small .size, f .sfits) };
+      fits = λ f. omega (arith, sizes (rest s (pos b)));
       quotient =
           let t = s -ℤ rest s (pos b) in
           let q = quotZ t (pos b) in
           let all = s ∷ pos b ∷ shrZ s b ∷ q ∷ remZ t (pos b) ∷ [] in
           ≤-antisym
-          (at-most b q (shrZ s b) (lt! all (g-lt (rem-size t b p .0) ⊞ g-eq (divided t b) (negsuc 0)) (search quo depth 40) tt))
-          (at-most b (shrZ s b) q (lt! all (g-lt (rem-size t b p .1) ⊞ g-eq (divided t b) (pos 1)) (search quo depth 40) tt));
+          (at-most b q (shrZ s b) (lt! all (g-lt (machine t b p .1) ⊞ g-eq (machine t b p .0) (negsuc 0)) (search quo depth 40) tt))
+          (at-most b (shrZ s b) q (lt! all (g-lt (machine t b p .2) ⊞ g-eq (machine t b p .0) (pos 1)) (search quo depth 40) tt));
     }

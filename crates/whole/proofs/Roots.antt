@@ -1,6 +1,6 @@
 -- The two roots: each computing form has its meaning, and no second number has it.
 use mathlib.Core.Path.{_≡_}
-use mathlib.Core.Bool.{Bool, true, false, not}
+use mathlib.Core.Bool.{true, false, not}
 use Prim.Native.Nat.{ℕ, zero, suc, _+_, _*_, _/_, _≤_, _<_}
 use native.Mathlib.Nat.{le-antisymm, mul-le-mul}
 use native.Mathlib.Omega.{arith, by-contra}
@@ -17,23 +17,19 @@ sq-le a b h = by-contra a b (λ k. let l : suc b ≤ a = omega arith in omega (a
 -- ---- rounded down
 
 pub floorRoot-unique : {n r s : ℕ} → IsFloorRoot n r → IsFloorRoot n s → r ≡ s
-floorRoot-unique {n} p q = le-antisymm (at-most p q) (at-most q p)
-  where
-    at-most : {r s : ℕ} → IsFloorRoot n r → IsFloorRoot n s → r ≤ s
-    at-most {r} {s} p q = omega (arith, sq-lt r (s + 1) (omega (arith, p .low, q .high)))
+floorRoot-unique {r = r} {s = s} p q =
+    le-antisymm (omega (arith, sq-lt r (s + 1) (omega arith))) (omega (arith, sq-lt s (r + 1) (omega arith)))
 
 -- doubling the root of a quarter loses one at most
 fromQuarter-is : (n r : ℕ) → IsFloorRoot (n / 4) r → IsFloorRoot n (fromQuarter n r)
 fromQuarter-is n r h =
-    let s = (2 * r + 1) * (2 * r + 1) in by-test (leb s n) (leb→le s n) (nleb→lt s n)
-  where
-    by-test : (t : Bool) → (T t → (2 * r + 1) * (2 * r + 1) ≤ n) → (T (not t) → n < (2 * r + 1) * (2 * r + 1)) → IsFloorRoot n (bump t (2 * r))
-    by-test true f g = record { low = f tt; high = omega (arith, h .high) }
-    by-test false f g = record { low = omega (arith, h .low); high = g tt }
+    let s = (2 * r + 1) * (2 * r + 1) in
+    elim (leb s n) as (λ t. (T t → s ≤ n) → (T (not t) → n < s) → IsFloorRoot n (bump t (2 * r)))
+    [ true ↦ λ f g. omega (arith, f tt) | false ↦ λ f g. omega (arith, g tt) ] (leb→le s n) (nleb→lt s n)
 
 rootWithin-is : (k n : ℕ) → n ≤ k → IsFloorRoot n (rootWithin k n)
-rootWithin-is zero n h = record { low = omega arith; high = omega arith }
-rootWithin-is (suc k) zero h = record { low = omega arith; high = omega arith }
+rootWithin-is zero n h = omega arith
+rootWithin-is (suc k) zero h = omega arith
 rootWithin-is (suc k) (suc j) h =
     fromQuarter-is (suc j) (rootWithin k (suc j / 4)) (rootWithin-is k (suc j / 4) (omega arith))
 
@@ -44,11 +40,10 @@ floorRoot-is n = rootWithin-is n n (omega arith)
 -- ---- rounded up
 
 pub rootUp-unique : {n u v : ℕ} → IsRootUp n u → IsRootUp n v → u ≡ v
-rootUp-unique {u = u} {v = v} p q = le-antisymm (p .least v (q .reach)) (q .least u (p .reach))
+rootUp-unique {u = u} {v = v} p q = le-antisymm (p .least v (q .enough)) (q .least u (p .enough))
 
 pub rootUp-is : (n : ℕ) → IsRootUp n (rootUp n)
 unfolding rootUp
-rootUp-is zero = record { reach = omega arith; least = λ v h. omega arith }
+rootUp-is zero = omega arith
 rootUp-is (suc n) =
-    let r = floorRoot-is n in
-    record { reach = omega (arith, r .high); least = λ v h. sq-lt (floorRoot n) v (omega (arith, r .low, h)) }
+    record { enough = omega (arith, floorRoot-is n); least = λ v h. sq-lt (floorRoot n) v (omega (arith, floorRoot-is n)) }

@@ -7,7 +7,7 @@ use native.Mathlib.Nat.{div-add-mod, mod-lt}
 use native.Mathlib.Omega.{arith}
 use lib.IntN.{ℤ, pos, negsuc, _+ℤ_, _-ℤ_, _*ℤ_}
 use lib.Signed.{_≤ℤ_, _<ℤ_, shrZ}
-use Rattle.whole.specs.Range.{Within}
+use Rattle.whole.specs.Sizes.{Within}
 use Rattle.whole.specs.Round.{Rounded, Near, roundBy}
 use Rattle.whole.proofs.Difference.{diff, d-le, d-lt}
 use Rattle.whole.proofs.Certificate.{quo, le!, lt!, false!, g-le, g-lt, g-num, _⊞_, _⊠_}
@@ -16,13 +16,11 @@ use Rattle.whole.proofs.Size.{abs-of}
 
 -- ---- the quotient rounded down: d times it is at most z, and d times one more is above
 
-pub floor-low : (z : ℤ) (d : ℕ) → 0 < d → (pos d *ℤ shrZ z d) ≤ℤ z
-floor-low (pos a) d p = d-le (search diff) (omega (arith, div-add-mod a d))
-floor-low (negsuc a) d p = d-le (search diff) (omega (arith, div-add-mod a d, mod-lt a p))
-
-pub floor-high : (z : ℤ) (d : ℕ) → 0 < d → z <ℤ (pos d *ℤ shrZ z d +ℤ pos d)
-floor-high (pos a) d p = d-lt (search diff) (omega (arith, div-add-mod a d, mod-lt a p))
-floor-high (negsuc a) d p = d-lt (search diff) (omega (arith, div-add-mod a d))
+pub floor : (z : ℤ) (d : ℕ) → 0 < d → ((pos d *ℤ shrZ z d) ≤ℤ z) × (z <ℤ (pos d *ℤ shrZ z d +ℤ pos d))
+floor (pos a) d p =
+    let e = div-add-mod a d in let l = mod-lt a p in (d-le (search diff) (omega arith), d-lt (search diff) (omega arith))
+floor (negsuc a) d p =
+    let e = div-add-mod a d in let l = mod-lt a p in (d-le (search diff) (omega arith), d-lt (search diff) (omega arith))
 
 -- d y is below d z + d only where y is at most z
 pub at-most : (d : ℕ) (y z : ℤ) → (pos d *ℤ y) <ℤ (pos d *ℤ z +ℤ pos d) → y ≤ℤ z
@@ -38,8 +36,8 @@ round-near d p A =
     let y = shrZ (A +ℤ h) d in
     let half : d ≤ d / 2 + d / 2 + 1 = omega arith in
     record {
-      low = le! (pos d ∷ h ∷ A ∷ y ∷ []) (g-le (floor-low (A +ℤ h) d p)) (search quo depth 40) tt;
-      high = le! (pos d ∷ h ∷ A ∷ y ∷ []) (g-lt (floor-high (A +ℤ h) d p) ⊞ g-le (le-ℤ half)) (search quo depth 40) tt;
+      low = le! (pos d ∷ h ∷ A ∷ y ∷ []) (g-le (floor (A +ℤ h) d p .0)) (search quo depth 40) tt;
+      high = le! (pos d ∷ h ∷ A ∷ y ∷ []) (g-lt (floor (A +ℤ h) d p .1) ⊞ g-le (le-ℤ half)) (search quo depth 40) tt;
     }
 
 -- for an even d it is the number that document 01 asks for
@@ -51,7 +49,7 @@ round-is d p even A =
     let half : d ≤ d / 2 + d / 2 = omega arith in
     record {
       low = round-near d p A .low;
-      high = lt! (pos d ∷ h ∷ A ∷ y ∷ []) (g-lt (floor-high (A +ℤ h) d p) ⊞ g-le (le-ℤ half)) (search quo depth 40) tt;
+      high = lt! (pos d ∷ h ∷ A ∷ y ∷ []) (g-lt (floor (A +ℤ h) d p .1) ⊞ g-le (le-ℤ half)) (search quo depth 40) tt;
     }
 
 -- and no second number is
@@ -60,16 +58,14 @@ round-unique {d} {A} r t = ≤-antisym (one-way r t) (one-way t r)
   where
     one-way : {y z : ℤ} → Rounded d A y → Rounded d A z → y ≤ℤ z
     one-way {y} {z} r t =
-        let h = pos (d / 2) in
         let half : d / 2 + d / 2 ≤ d = omega arith in
-        at-most d y z (lt! (pos d ∷ h ∷ A ∷ y ∷ z ∷ []) (g-le (r .low) ⊞ g-lt (t .high) ⊞ g-le (le-ℤ half)) (search quo depth 40) tt)
+        at-most d y z (lt! (pos d ∷ pos (d / 2) ∷ A ∷ y ∷ z ∷ []) (g-le (r .low) ⊞ g-lt (t .high) ⊞ g-le (le-ℤ half)) (search quo depth 40) tt)
 
 -- ---- what `Near` alone tells
 
 -- A is at most half of d away from d y
 pub round-error : {d : ℕ} {A y : ℤ} → Near d A y → Within (d / 2) (A -ℤ pos d *ℤ y)
 round-error {d} {A} {y} n =
-    let h = pos (d / 2) in
     abs-of
-    (le! (pos d ∷ h ∷ A ∷ y ∷ []) (g-le (n .low)) (search quo depth 40) tt)
-    (le! (pos d ∷ h ∷ A ∷ y ∷ []) (g-le (n .high)) (search quo depth 40) tt)
+    (le! (pos d ∷ pos (d / 2) ∷ A ∷ y ∷ []) (g-le (n .low)) (search quo depth 40) tt)
+    (le! (pos d ∷ pos (d / 2) ∷ A ∷ y ∷ []) (g-le (n .high)) (search quo depth 40) tt)

@@ -1,6 +1,6 @@
 -- What the contracts of `whole` mean: a range, the rounding rule, the two roots, sums, bits and two's complement.
 pub mod Exactly
-pub mod Range
+pub mod Sizes
 pub mod Round
 pub mod Root
 pub mod Sum

@@ -11,7 +11,7 @@ pub record IsFloorRoot (n r : ℕ) : Type 0 where
 
 -- u is the root of n rounded up: the smallest whole number whose square is at least n
 pub record IsRootUp (n u : ℕ) : Type 0 where
-  pub reach : n ≤ u * u
+  pub enough : n ≤ u * u
   pub least : (v : ℕ) → n ≤ v * v → u ≤ v
 
 -- one is added where the test passed

@@ -5,7 +5,7 @@ ghost use mathlib.Core.Bool.{cond};
 ghost use Prim.Native.Nat.{_+_, _*_, _<_, _≤_, _^_};
 ghost use lib.IntN.{pos, natAbs, _-ℤ_, _*ℤ_};
 ghost use lib.Signed.{_<ℤ_, shrZ};
-ghost use Rattle.whole.specs.Range.{Within};
+ghost use Rattle.whole.specs.Sizes.{Within};
 ghost use Rattle.whole.specs.Round.{roundBy};
 ghost use Rattle.whole.specs.Root.{floorRoot, rootUp};
 ghost use Rattle.whole.specs.TwosComplement.{signed, unsigned};
@@ -30,7 +30,7 @@ pub fn round_by(x: i64, d: i64) -> i64
 }
 
 // The root rounded down of a number below the width's square. It is at least r and below r + w throughout, and each turn halves w.
-// How often that is does not hang on x, so a call with a literal width is unrolled.
+// How often that is does not depend on x, so a call with a literal width is unrolled.
 fn root_below(x: u64, width: u64) -> u64
     requires { ⌜ (x < width * width) × (width ≤ 2 ^ 32) ⌝ }
     ensures { λ r. ⌜ r ≡ floorRoot x ⌝ }

@@ -6,7 +6,7 @@ use Rattle.decision.proofs.decision.Statement.{statement}
 use Rattle.decision.proofs.decision.Tie as tie
 
 returns : tie.Need-returns
-returns c = c .bytes .ensures ∙ ap decisionBytes (c .before .found .ensures .0)
+returns c = c .bytes .ensures ∙ ap decisionBytes (c .before .findings-in .ensures .0)
 
 pub decision-spec : {M : Type 1} → statement M
 decision-spec = tie.close (tie.spec (λ c κs. search needs) (λ c κs. search needs) returns)

@@ -7,7 +7,7 @@ use Rattle.decision.proofs.direction.Tie as tie
 
 returns : tie.Need-returns
 returns c =
-    let k = c .before in c .of-fault .ensures ∙ ap₂ (directionOf _) (k .before .negative .ensures .0) (k .negative2 .ensures .0)
+    let k = c .before in c .of-fault .ensures ∙ ap₂ (directionOf _) (k .before .negative-sequence .ensures .0) (k .negative-sequence2 .ensures .0)
 
 pub direction-spec : {M : Type 1} → statement M
 direction-spec = tie.close (tie.spec (λ c κs. search needs) (λ c κs. search needs) (λ c κs. search needs) returns)

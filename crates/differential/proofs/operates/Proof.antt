@@ -4,7 +4,8 @@ use native.Mathlib.Nat.{mul-le-mul}
 use native.Mathlib.Omega.{arith}
 use borrow.Author.Needs.{needs}
 use borrow.Author.Tests.{le-leb, lt-leb}
-use Rattle.differential.specs.Differential.{operates, restraintMost}
+use Rattle.differential.specs.Differential.{operates}
+use Rattle.differential.specs.Sizes.{restraintMost}
 use Rattle.differential.proofs.operates.Statement.{statement}
 use Rattle.differential.proofs.operates.Tie as tie
 

@@ -13,7 +13,7 @@ returns c =
     let m = d .before .before .before .before .before in
     let k = m .before .before .count .ensures in
     let taken = ap (λ n. take n (m .numbers2 .last .1 .0)) (sub-zero _ ∙ k .0) ∙ m .numbers2 .ensures in
-    decide-bytes _ _ _ _ taken (rw (← k .0) (k .1)) _ _ _ (c .given-back .ensures) (d .decide .ensures)
+    (decide-bytes _ _ _ _ taken (rw (← k .0) (k .1)) _ _ _ (c .given-back .ensures) (d .decide .ensures .0), search needs, search needs)
 
 pub gorsepetal-decide-spec : {M : Type 1} → statement M
 gorsepetal-decide-spec =

@@ -9,6 +9,6 @@ pub window-bytes-spec : {M : Type 1} → statement M
 window-bytes-spec =
     tie.close
     (tie.spec
-    (λ c. (search (needs, bytes-17), omega arith)) (λ c κs. search needs) (λ c κs. search needs)
-    (λ c. (search (needs, bytes-1), omega arith)) (λ c. search needs) (λ c. search needs) (λ c. search needs)
-    (λ c κs. search (needs, counts)) (λ c. search needs) (λ c. (search (needs, bytes-0), omega arith)))
+    (λ c. (search (needs, bytes-17), omega arith, search needs)) (λ c κs. search needs) (λ c κs. search needs)
+    (λ c. (search (needs, bytes-1), omega arith, search needs)) (λ c. search needs) (λ c. search needs) (λ c. search needs)
+    (λ c κs. search (needs, counts)) (λ c. search needs) (λ c. (search (needs, bytes-0), omega arith, search needs)))

@@ -7,7 +7,7 @@ use borrow.Author.Needs.{needs}
 use denote.Ref.{now}
 use lib.IntN.{ℤ}
 use Rattle.plane.specs.declared.Phasor.{Phasor}
-use Rattle.plane.specs.Plane.{Inside}
+use Rattle.plane.specs.Sizes.{Inside}
 use Rattle.phasors.specs.Rate.{sixteen}
 use Rattle.phasors.specs.Grid.{current}
 use Rattle.phasors.proofs.Cells.{Upto, upto-none, upto-put, upto-end}
@@ -47,10 +47,8 @@ loop-again c = (search needs, upto-end _ _ _ _ (c .loop2-test .left) (c .before 
 
 returns : tie.Need-returns Inv-loop2 μ-loop2 Inv-loop μ-loop
 returns c =
-    let all = c .before .loop .inv .1 .ends in record {
-      measured = (λ p e h k. all p e h (omega arith) .0);
-      inside = (λ p e h k. all p e h (omega arith) .1);
-    }
+    let all = c .before .loop .inv .1 .ends in
+    (record { measured = (λ p e h k. all p e h (omega arith) .0) }, λ p e h k. all p e h (omega arith) .1)
 
 pub currents-spec : {M : Type 1} → statement M
 currents-spec =

@@ -12,20 +12,21 @@ use mir.Syntax.{w16}
 use mir.Val.{SFits}
 use mir.Facts.{toZ-ofZ}
 use Rattle.whole.proofs.Size.{lit}
-use Rattle.plane.specs.Plane.{Inside}
+use Rattle.plane.specs.Sizes.{Inside}
 use Rattle.plane.proofs.Bounds.{inside-wider, inside-along}
 use Rattle.phasors.specs.Rate.{cosine, sine}
-use Rattle.phasors.specs.Sums.{sample, Summed}
+use Rattle.phasors.specs.Sums.{sample}
+use Rattle.phasors.specs.Sizes.{Summed}
 use Rattle.phasors.proofs.Weights.{fitted, summed-none, summed-next, inside-next}
 use Rattle.phasors.proofs.sums.Statement.{statement}
 use Rattle.phasors.proofs.sums.Tie as tie
 
 abbrev Inv-loop : tie.InvT-loop
-Inv-loop window channels channel table shift sums₀ n₀ n-end sums n =
-    (n ≤ length table) × Summed table shift (sample window channels channel) n sums × Inside (2 ^ 30 * n) sums
+Inv-loop window channels channel coefficients shift sums₀ n₀ n-end sums n =
+    (n ≤ length coefficients) × Summed coefficients shift (sample window channels channel) n sums × Inside (2 ^ 30 * n) sums
 
 abbrev μ-loop : tie.MeasureT-loop
-μ-loop window channels channel table shift sums₀ n₀ n-end sums n = length table - n
+μ-loop window channels channel coefficients shift sums₀ n₀ n-end sums n = length coefficients - n
 
 loop-holds : tie.Need-loop-holds Inv-loop μ-loop
 loop-holds c = (search needs, summed-none _ _ _, record { real = lit (pos 0); imag = lit (pos 0) })
@@ -67,21 +68,21 @@ loop-again c =
     let n = t .before .before .loop .n in
     let inv = t .before .before .loop .inv in
     let a = t .before .before .before .args in
-    let table = now (a .table) in
+    let coefficients = now (a .coefficients) in
     let x = sample (now (a .window)) (a .channels) (a .channel) in
     let fx : SFits w16 (x n) = record { sfits = t .with-sample-arg .given } in
-    let fc : SFits w16 (cosine table n) = record { sfits = c .before .before .with-sample-arg2 .given } in
-    let fs : SFits w16 (sine table (a .shift) n) = record { sfits = c .before .with-sample-arg3 .given } in
+    let fc : SFits w16 (cosine coefficients n) = record { sfits = c .before .before .with-sample-arg2 .given } in
+    let fs : SFits w16 (sine coefficients (a .shift) n) = record { sfits = c .before .with-sample-arg3 .given } in
     let e = simp (toZ-ofZ fx, toZ-ofZ fc, toZ-ofZ fs) at (c .with-sample .ensures) in (
       search needs,
-      rw e (summed-next table (a .shift) x n (inv .1) (fitted fx)),
+      rw e (summed-next coefficients (a .shift) x n (inv .1) (fitted fx)),
       inside-along e (inside-next n (inv .2) (fitted fx) (fitted fc) (fitted fs)),
     )
 
 returns : tie.Need-returns Inv-loop μ-loop
 returns c =
     let l = c .before .loop in
-    let past : l .n ≡ length (now (c .before .before .args .table)) = omega arith in
+    let past : l .n ≡ length (now (c .before .before .args .coefficients)) = omega arith in
     rw (sym past) (l .inv .1)
 
 pub sums-spec : {M : Type 1} → statement M

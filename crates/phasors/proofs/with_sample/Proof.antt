@@ -5,7 +5,7 @@ use lib.IntN.{ℤ, _*ℤ_}
 use mir.Syntax.{w16, w64}
 use mir.Val.{SFits, toZ, ofZ}
 use mir.Facts.{toZ-ofZ}
-use Rattle.whole.specs.Range.{Within}
+use Rattle.whole.specs.Sizes.{Within}
 use Rattle.whole.proofs.Size.{add, sub, mul, fit, rd}
 use Rattle.phasors.specs.Sums.{withSample}
 use Rattle.phasors.proofs.Weights.{fitted}

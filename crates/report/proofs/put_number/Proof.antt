@@ -1,31 +1,23 @@
 -- `report::put_number` meets its contract: the digits that `io::decimal` makes are the number's decimal text.
 use native.Mathlib.Omega.{arith}
-use denote.Ref.{now}
 use borrow.Author.Needs.{needs}
-use Rattle.report.proofs.Decimal.{few-digits, number-behind}
+use Rattle.report.proofs.Decimal.{few-digits, number-written}
 use Rattle.report.proofs.put_number.Statement.{statement}
 use Rattle.report.proofs.put_number.Tie as tie
 
 put-requires : tie.Need-put-requires
-put-requires c κs =
-    let s = c .before .before .before .before .before in
-    let d = c .before .before .decimal in
-    omega (arith, few-digits (d .result) (s .args .n) (d .ensures .1 .0) (s .fits .n .fits))
+put-requires c κs = omega (arith, few-digits (c .before .before .decimal .ensures .1 .0) (c .before .before .before .before .before .fits .n .fits))
 
 add-result : tie.Need-add-result
 add-result c =
-    let s = c .before .before .before .before .before .before .before .before in
-    let d = c .before .before .before .before .before .decimal in
-    omega (arith, few-digits (d .result) (s .args .n) (d .ensures .1 .0) (s .fits .n .fits))
+    let d = c .before .before .before .before .before in
+    omega (arith, few-digits (d .decimal .ensures .1 .0) (d .before .before .before .fits .n .fits))
 
 returns : tie.Need-returns
 returns c =
-    let s = c .before .before .before .before .before .before .before .before in
-    let d = c .before .before .before .before .before .decimal in
-    let few = few-digits (d .result) (s .args .n) (d .ensures .1 .0) (s .fits .n .fits) in (
-      omega arith,
-      number-behind (now (s .args .out)) _ (s .args .at) (d .result) (s .args .n) (omega arith) (d .ensures .0 .1) (d .ensures .1 .1) (d .ensures .1 .0) (c .before .before .put .ensures),
-    )
+    let d = c .before .before .before .before .before in
+    let few = few-digits (d .decimal .ensures .1 .0) (d .before .before .before .fits .n .fits) in
+    (number-written (omega arith) (d .decimal .ensures .0 .1) (d .decimal .ensures .1 .1) (d .decimal .ensures .1 .0) (c .before .before .put .ensures), omega arith)
 
 pub put-number-spec : {M : Type 1} → statement M
 put-number-spec =

@@ -13,35 +13,35 @@ use mir.Syntax.{w16}
 use mir.Val.{toZ, ofZ}
 use mir.Facts.{toZ-ofZ}
 use Rattle.samples.specs.declared.Found.the-variants.{Nothing, At}
-use Rattle.samples.specs.Order.{Missing, Present}
+use Rattle.samples.specs.Order.{Missing, NoneMissing}
 use Rattle.samples.proofs.Missing.{earlier, is-first}
 use Rattle.samples.proofs.first_missing.Statement.{statement}
 use Rattle.samples.proofs.first_missing.Tie as tie
 
 -- the same count, said otherwise
-present-at : (w : List ℤ) {m n : ℕ} → m ≡ n → Present w m → Present w n
-present-at w e h = rw (← e) h
+none-missing-at : (w : List ℤ) {m n : ℕ} → m ≡ n → NoneMissing w m → NoneMissing w n
+none-missing-at w e h = rw (← e) h
 
 abbrev Inv-loop : tie.InvT-loop
-Inv-loop window frames channels found₀ f c₀ found c = (c ≤ channels) × (found ≡ Nothing) × Present window (f * channels + c)
+Inv-loop window frames channels found₀ f c₀ found c = (c ≤ channels) × (found ≡ Nothing) × NoneMissing window (f * channels + c)
 
 abbrev μ-loop : tie.MeasureT-loop
 μ-loop window frames channels found₀ f c₀ found c = channels - c
 
 abbrev Inv-search : tie.InvT-search
-Inv-search window frames channels found₀ f₀ found f = (f ≤ frames) × (found ≡ Nothing) × Present window (f * channels)
+Inv-search window frames channels found₀ f₀ found f = (f ≤ frames) × (found ≡ Nothing) × NoneMissing window (f * channels)
 
 abbrev μ-search : tie.MeasureT-search
 μ-search window frames channels found₀ f₀ found f = frames - f
 
 returns : tie.Need-returns Inv-loop μ-loop Inv-search μ-search
 returns c =
-    is-first (now (c .before .before .args .window)) Nothing (c .before .all-present .ensures (c .if1 .taken))
+    is-first (now (c .before .before .args .window)) Nothing (c .before .none-missing .ensures (c .if1 .taken))
 
 loop-holds : tie.Need-loop-holds Inv-loop μ-loop Inv-search μ-search
 loop-holds c =
     let s = c .before in
-    (omega arith, s .search .inv .1, present-at (now (s .before .before .before .args .window)) (omega arith) (s .search .inv .2))
+    (omega arith, s .search .inv .1, none-missing-at (now (s .before .before .before .args .window)) (omega arith) (s .search .inv .2))
 
 -- the place of a channel lies in the window
 inside :
@@ -58,21 +58,21 @@ loop-again c =
     let w : List ℤ = now (s .before .before .before .args .window) in (
       omega arith,
       l .loop .inv .1,
-      present-at w (omega arith) (below-more (λ k. Missing w k → ⊥) (s .search .f * s .before .before .before .args .channels + l .loop .c) (l .loop .inv .2) (λ m. c .if2 .left (ap (ofZ w16) m))),
+      none-missing-at w (omega arith) (below-more (λ k. Missing w k → ⊥) (s .search .f * s .before .before .before .args .channels + l .loop .c) (l .loop .inv .2) (λ m. c .if2 .left (ap (ofZ w16) m))),
     )
 
 search-again : tie.Need-search-again Inv-loop μ-loop Inv-search μ-search
 search-again c =
     let l = c .before in
     let s = l .before .before in
-    (omega arith, l .loop .inv .1, present-at (now (s .before .before .before .args .window)) (omega arith) (l .loop .inv .2))
+    (omega arith, l .loop .inv .1, none-missing-at (now (s .before .before .before .args .window)) (omega arith) (l .loop .inv .2))
 
 returns-2 : tie.Need-returns-2 Inv-loop μ-loop Inv-search μ-search
 returns-2 c =
     let s = c .before in
     let done : s .search .f ≡ s .before .before .before .args .frames = omega arith in
     let w : List ℤ = now (s .before .before .before .args .window) in
-    s .search .inv .1 ∙ is-first w Nothing (present-at w (rw done (sym (s .before .before .before .pre))) (s .search .inv .2))
+    s .search .inv .1 ∙ is-first w Nothing (none-missing-at w (rw done (sym (s .before .before .before .pre))) (s .search .inv .2))
 
 returns-3 : tie.Need-returns-3 Inv-loop μ-loop Inv-search μ-search
 returns-3 c =

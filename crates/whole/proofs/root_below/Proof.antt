@@ -18,30 +18,12 @@ abbrev μ-loop : tie.MeasureT-loop
 wider : {x a b : ℕ} → x < a * a → a ≤ b → x < b * b
 wider h k = lt-of-lt-of-le h (mul-le-mul k k)
 
-mul-if1 : tie.Need-mul-if1 Inv-loop μ-loop
-mul-if1 c =
-    let l = c .before .loop in
-    let t : l .r + l .w / 2 ≤ 2 ^ 32 - 1 = omega arith in
-    omega (arith, mul-le-mul t t)
-
-loop-again : tie.Need-loop-again Inv-loop μ-loop
-loop-again c =
-    let l = c .before .before .loop in
-    (omega arith, wider (l .inv .1) (omega arith), omega arith)
-
-loop-again-2 : tie.Need-loop-again-2 Inv-loop μ-loop
-loop-again-2 c =
-    let l = c .before .before .loop in
-    (l .inv .0, wider {a = l .r + l .w / 2} (c .if1 .left) (omega arith), omega arith)
-
-returns : tie.Need-returns Inv-loop μ-loop
-returns c =
-    let l = c .before .loop in
-    floorRoot-unique (record { low = l .inv .0; high = wider (l .inv .1) (omega arith) }) (floorRoot-is _)
-
 pub root-below-spec : {M : Type 1} → statement M
 root-below-spec =
     tie.close
     (tie.spec
-    Inv-loop μ-loop (λ c. search needs) (λ c. search needs) (λ c. search needs) mul-if1 (λ c. omega arith) loop-again
-    (λ c. omega arith) loop-again-2 returns)
+    Inv-loop μ-loop (λ c. search needs) (λ c. search needs) (λ c. search needs)
+    (λ c. let l = c .before .loop in let t : l .r + l .w / 2 ≤ 2 ^ 32 - 1 = omega arith in omega (arith, mul-le-mul t t)) (λ c. omega arith)
+    (λ c. (omega arith, wider (c .before .before .loop .inv .1) (omega arith), omega arith)) (λ c. omega arith)
+    (λ c. let l = c .before .before .loop in (l .inv .0, wider {a = l .r + l .w / 2} (c .if1 .left) (omega arith), omega arith))
+    (λ c. let i = c .before .loop .inv in floorRoot-unique (record { low = i .0; high = wider (i .1) (omega arith) }) (floorRoot-is _)))

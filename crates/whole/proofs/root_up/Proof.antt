@@ -13,24 +13,16 @@ module _ {x r : ℕ} (e : r ≡ floorRoot x) where
   rooted = rw e (floorRoot-is x)
 
   one-more : r * r < x → IsRootUp x (r + 1)
-  one-more h =
-      record { reach = omega (arith, rooted .high); least = λ v k. omega (arith, sq-lt r v (omega (arith, h, k))) }
+  one-more h = record { enough = omega (arith, rooted); least = λ v k. omega (arith, sq-lt r v (omega arith)) }
 
   exact : x ≤ r * r → IsRootUp x r
-  exact h = record { reach = h; least = λ v k. omega (arith, sq-lt r (v + 1) (omega (arith, rooted .low, k))) }
-
-mul-if1 : tie.Need-mul-if1
-mul-if1 c = omega (arith, rooted (c .floor-root .ensures) .low)
-
-add-result : tie.Need-add-result
-add-result c =
-    omega (arith, sq-lt (c .before .floor-root .result) (2 ^ 32) (omega (arith, rooted (c .before .floor-root .ensures) .low)))
-
-returns : tie.Need-returns
-returns c = rootUp-unique (one-more (c .before .floor-root .ensures) (c .if1 .taken)) (rootUp-is _)
-
-returns-2 : tie.Need-returns-2
-returns-2 c = rootUp-unique (exact (c .before .floor-root .ensures) (c .if1 .left)) (rootUp-is _)
+  exact h = record { enough = h; least = λ v k. omega (arith, sq-lt r (v + 1) (omega (arith, rooted))) }
 
 pub root-up-spec : {M : Type 1} → statement M
-root-up-spec = tie.close (tie.spec (λ c κs. search needs) mul-if1 add-result returns returns-2)
+root-up-spec =
+    tie.close
+    (tie.spec
+    (λ c κs. search needs) (λ c. omega (arith, rooted (c .floor-root .ensures) .low))
+    (λ c. let r = c .before .floor-root in omega (arith, sq-lt (r .result) (2 ^ 32) (omega (arith, rooted (r .ensures) .low))))
+    (λ c. rootUp-unique (one-more (c .before .floor-root .ensures) (c .if1 .taken)) (rootUp-is _))
+    (λ c. rootUp-unique (exact (c .before .floor-root .ensures) (c .if1 .left)) (rootUp-is _)))

@@ -1,17 +1,18 @@
 -- `whole::round_by` meets its contract: half of d is found by the machine's division, and what is left over is taken off before the other, so
 -- that it comes out even.
-use mathlib.Core.Path.{_≡_, refl}
+use mathlib.Core.Path.{_≡_, refl, _∙_}
 use Prim.Native.Nat.{_+_, _/_, _^_}
 use native.Mathlib.Omega.{arith}
 use borrow.Author.Needs.{needs}
-use lib.Dec.{lit<}
-use lib.IntN.{ℤ, pos, negsuc, natAbs, _+ℤ_}
+use lib.IntN.{ℤ, pos, negsuc, natAbs, _+ℤ_, _-ℤ_}
 use lib.Signed.{_<ℤ_, quotZ}
+use mir.Syntax.{w64}
+use mir.Val.{SFits}
 use mir.Facts.{toZ-ofZ}
-use Rattle.whole.specs.Range.{Within}
+use Rattle.whole.specs.Sizes.{Within}
 use Rattle.whole.specs.Round.{roundBy}
 use Rattle.whole.proofs.Size.{add, sub, along, fit, rd}
-use Rattle.whole.proofs.Machine.{divisor, quot-fits}
+use Rattle.whole.proofs.Machine.{Read, divisor, quot-fits}
 use Rattle.whole.proofs.Remainder.{remainder, rest}
 use Rattle.whole.proofs.round_by.Statement.{statement}
 use Rattle.whole.proofs.round_by.Tie as tie
@@ -24,53 +25,39 @@ half (negsuc n) p = absurd (p .lt)
 abbrev sum : tie.Start → ℤ
 sum c = c .args .x +ℤ quotZ (c .args .d) (pos 2)
 
-halved : (c : tie.Start) → Within (2 ^ 60) (quotZ (c .args .d) (pos 2))
-halved c = rw (half (c .args .d) (c .pre .0)) (record { size = omega (arith, c .pre .2 .size) })
+module _ (c : tie.Start) where
+  halved : Within (2 ^ 60) (quotZ (c .args .d) (pos 2))
+  halved = rw (half (c .args .d) (c .pre .0)) (omega (arith, c .pre .2))
 
-small : (c : tie.Start) → Within (2 ^ 62 + 2 ^ 60) (sum c)
-small c = add (c .pre .1) (halved c)
+  small : Within (2 ^ 62 + 2 ^ 60) (sum c)
+  small = add (c .pre .1) halved
 
-div-s : tie.Need-div-s
-div-s c = (lit< tt, simp (rd (c .pre .2) tt) (fit (halved c) tt))
+  worked : Read (c .args .x) +ℤ Read (quotZ (Read (c .args .d)) (pos 2)) ≡ sum c
+  worked = simp (rd (c .pre .1) tt, rd (c .pre .2) tt, rd halved tt)
 
-add-s : tie.Need-add-s
-add-s c = simp (rd (c .pre .1) tt, rd (c .pre .2) tt, rd (halved c) tt) (fit (small c) tt)
+  -- r is left over of it: once it has been taken off, d goes in exactly
+  module _ {w r : ℤ} (k : w ≡ sum c) (e : r ≡ rest (Read w) (Read (c .args .d))) where
+    over : r ≡ rest (sum c) (c .args .d)
+    over = rw (k, rd small tt, rd (c .pre .2) tt) at e
 
--- what is left over
-left-over : (c : tie.After-floor-rem) → c .floor-rem .result ≡ rest (sum (c .before)) (c .before .args .d)
-left-over c =
-    let h = c .before .pre in
-    simp (rd (h .1) tt, rd (h .2) tt, rd (halved (c .before)) tt, rd (small (c .before)) tt) at (c .floor-rem .ensures)
+    over-small : Within (2 ^ 61) r
+    over-small = let p = along over (remainder (sum c) (c .args .d) (c .pre .0) .within) in omega (arith, p, c .pre .2)
 
-over-small : (c : tie.After-floor-rem) → Within (2 ^ 61) (c .floor-rem .result)
-over-small c =
-    let s = c .before in
-    let over = along (left-over c) (remainder (sum s) (s .args .d) (s .pre .0) .within) in
-    record { size = omega (arith, over .size, s .pre .2 .size) }
-
-sub-result : tie.Need-sub-result
-sub-result c =
-    let h = c .before .pre in
-    simp (rd (h .1) tt, rd (h .2) tt, rd (halved (c .before)) tt, rd (small (c .before)) tt, rd (over-small c) tt)
-    (fit (sub (small (c .before)) (over-small c)) tt)
-
-div-result : tie.Need-div-result
-div-result c =
-    let s = c .before in
-    let h = s .pre in
-    let even = sub (small s) (over-small c) in (
-      divisor (s .args .d) (h .0),
-      simp (rd (h .1) tt, rd (h .2) tt, rd (halved s) tt, rd (small s) tt, rd (over-small c) tt, rd even tt) (quot-fits (h .0) (fit even tt)),
-    )
-
-returns : tie.Need-returns
-unfolding roundBy
-returns c =
-    let s = c .before in
-    let h = s .pre in
-    let even = sub (small s) (over-small c) in
-    simp (rd (h .1) tt, rd (h .2) tt, rd (halved s) tt, rd (small s) tt, rd (over-small c) tt, rd even tt, toZ-ofZ (quot-fits (h .0) (fit even tt)))
-    (rw (left-over c, ← (half (s .args .d) (h .0))) (remainder (sum s) (s .args .d) (h .0) .quotient))
+    divided :
+        SFits w64 (Read w -ℤ Read r) × SFits w64 (quotZ (Read (Read w -ℤ Read r)) (Read (c .args .d))) ×
+        (Read (quotZ (Read (Read w -ℤ Read r)) (Read (c .args .d))) ≡ roundBy (natAbs (c .args .d)) (c .args .x))
+    unfolding roundBy
+    divided =
+        let even = sub small over-small in
+        let fits = quot-fits (c .pre .0) (fit even tt) in
+        rw (k, rd small tt, rd over-small tt, rd even tt, rd (c .pre .2) tt, ← (half (c .args .d) (c .pre .0)))
+        (fit even tt, fits, toZ-ofZ fits ∙ rw over (remainder (sum c) (c .args .d) (c .pre .0) .quotient))
 
 pub round-by-spec : {M : Type 1} → statement M
-round-by-spec = tie.close (tie.spec div-s add-s (λ c κs. search needs) sub-result div-result returns)
+round-by-spec =
+    tie.close
+    (tie.spec
+    (λ c. (omega arith, rw (rd (c .pre .2) tt) (fit (halved c) tt))) (λ c. rw (worked c) (fit (small c) tt)) (λ c κs. search needs)
+    (λ c. divided (c .before) (worked (c .before)) (c .floor-rem .ensures) .0)
+    (λ c. (divisor _ (c .before .pre .0), divided (c .before) (worked (c .before)) (c .floor-rem .ensures) .1))
+    (λ c. divided (c .before) (worked (c .before)) (c .floor-rem .ensures) .2))

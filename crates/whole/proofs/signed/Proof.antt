@@ -8,35 +8,23 @@ use lib.IntN.{pos, _-ℤ_}
 use mir.Syntax.{w16, w32}
 use mir.Val.{SFits, toZ, ofZ}
 use mir.Facts.{toZ-pos, toZ-ofZ, sfits-widen}
-use Rattle.whole.specs.TwosComplement.{signed}
-use Rattle.whole.proofs.TwosComplement.{negative}
+use Rattle.whole.proofs.TwosComplement.{from-32768}
 use Rattle.whole.proofs.signed.Statement.{statement}
 use Rattle.whole.proofs.signed.Tie as tie
 
--- below 32768 the number stands as it is
-low : (v : ℕ) → v < 32768 → toZ w16 v ≡ signed v
-low v h = rw (lt-ltb v 32768 h)
-
--- from there on it is read as 32 bits, is 65536 less, and is cut to 16 bits with nothing lost
-module _ (v : ℕ) (h : 32768 ≤ v) (k : v < 65536) where
-  read : toZ w32 v ≡ pos v
-  read = toZ-pos w32 (omega arith)
-
+-- from 32768 on the number is read as 32 bits, is 65536 less, and is cut to 16 bits with nothing lost
+module _ {v : ℕ} (h : 32768 ≤ v) (k : v < 65536) where
   small : SFits w16 (pos v -ℤ pos 65536)
-  small = rw (negative v h k) (record { sfits = omega arith })
+  small = rw (from-32768 v h k) (record { sfits = omega arith })
 
-  wide : SFits w32 (toZ w32 v -ℤ pos 65536)
-  wide = rw read (sfits-widen tt small)
-
-  cut : SFits w16 (toZ w32 (ofZ w32 (toZ w32 v -ℤ pos 65536)))
-  cut = rw (toZ-ofZ wide, read) small
-
-  high : toZ w16 (ofZ w16 (toZ w32 (ofZ w32 (toZ w32 v -ℤ pos 65536)))) ≡ signed v
-  high = rw (toZ-ofZ cut, toZ-ofZ wide, read, le-ltb v 32768 h)
+  less : SFits w32 (toZ w32 v -ℤ pos 65536) × (toZ w32 (ofZ w32 (toZ w32 v -ℤ pos 65536)) ≡ pos v -ℤ pos 65536)
+  less = let wide : SFits w32 (pos v -ℤ pos 65536) = sfits-widen tt small in rw (toZ-pos w32 {n = v} (omega arith)) (wide, toZ-ofZ wide)
 
 pub signed-spec : {M : Type 1} → statement M
 signed-spec =
     tie.close
     (tie.spec
-    (λ c. search needs) (λ c. search needs) (λ c. wide _ (c .if1 .left) (omega arith))
-    (λ c. cut _ (c .if1 .left) (omega arith)) (λ c. low _ (c .if1 .taken)) (λ c. high _ (c .if1 .left) (omega arith)))
+    (λ c. search needs) (λ c. search needs) (λ c. less (c .if1 .left) (omega arith) .0)
+    (λ c. let h = c .if1 .left in rw (less h (omega arith) .1) (small h (omega arith)))
+    (λ c. rw (lt-ltb _ 32768 (c .if1 .taken)))
+    (λ c. let h = c .if1 .left in rw (less h (omega arith) .1, toZ-ofZ (small h (omega arith)), le-ltb _ 32768 h)))

@@ -8,7 +8,7 @@ use Rattle.plane.specs.declared.Phasor.{Phasor}
 use Rattle.plane.specs.Plane.{squared}
 use Rattle.plane.proofs.Bounds.{within-dot}
 use Rattle.settings.specs.Fields.{forwardLimit, reverseLimit}
-use Rattle.distance.specs.Line.{angle}
+use Rattle.distance.specs.Constants.{angle}
 use Rattle.distance.specs.Direction.{torque, sideOf, directionOf}
 use Rattle.distance.proofs.Sizes.{forward-within, reverse-within}
 use Rattle.distance.proofs.direction.of_fault.Statement.{statement}

@@ -5,7 +5,8 @@ use mir.Facts.{toZ-ofZ}
 use Rattle.whole.proofs.Machine.{back}
 use Rattle.whole.proofs.Size.{wider, along}
 use Rattle.plane.specs.declared.Phasor.{Phasor}
-use Rattle.plane.specs.Plane.{Inside, dot}
+use Rattle.plane.specs.Plane.{dot}
+use Rattle.plane.specs.Sizes.{Inside}
 use Rattle.plane.proofs.Bounds.{inside-times, within-dot, inside-wider, inside-along}
 use Rattle.distance.specs.Mho.{denominator, mho, asserts}
 use Rattle.distance.proofs.mho.asserts.Statement.{statement}

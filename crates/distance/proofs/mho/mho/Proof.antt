@@ -15,8 +15,8 @@ returns : tie.Need-returns
 unfolding mho
 returns c =
     let h = c .before .pre in
-    let positive = simp (rd (h .2) tt) at (c .if1 .taken) in
-    simp (rd (h .0) tt, rd (h .1) tt, rd (h .2) tt, rd (mul (lit (pos 1000000)) (h .1)) tt, rd (mul (h .0) (h .2)) tt) (rw positive)
+    let positiveSequence = simp (rd (h .2) tt) at (c .if1 .taken) in
+    simp (rd (h .0) tt, rd (h .1) tt, rd (h .2) tt, rd (mul (lit (pos 1000000)) (h .1)) tt, rd (mul (h .0) (h .2)) tt) (rw positiveSequence)
 
 returns-2 : tie.Need-returns-2
 unfolding mho

@@ -4,7 +4,8 @@ use Prim.Native.Nat.{_^_}
 use lib.IntN.{pos}
 use lib.Signed.{ltZ-yes}
 use Rattle.whole.proofs.Size.{lit, wider}
-use Rattle.plane.specs.Plane.{Inside, plus, rounded}
+use Rattle.plane.specs.Plane.{plus, rounded}
+use Rattle.plane.specs.Sizes.{Inside}
 use Rattle.plane.proofs.Bounds.{inside-plus, inside-factor, inside-scaled, inside-wider, inside-along}
 use Rattle.distance.specs.Sequence.{sequence, scale}
 use Rattle.distance.proofs.Sizes.{turn-inside, sequence-inside}

@@ -1,0 +1,20 @@
+-- The worked decisions, by computation.
+use mathlib.Core.Path.{refl}
+use Rattle.whole.specs.Round.{roundBy}
+use Rattle.whole.specs.Root.{floorRoot, rootUp}
+use Rattle.whole.specs.Sum.{sumOf}
+use Rattle.plane.specs.Plane.{plus, minus, times, scaled, rounded, minusJ, dot, squaredMagnitude}
+use Rattle.phasors.specs.Sums.{withSample, sumTo, phasorOf}
+use Rattle.phasors.specs.Grid.{total}
+use Rattle.distance.specs.Sequence.{turned, sequence}
+use Rattle.distance.specs.Direction.{reachesPickup, torque, sideOf, directionOf}
+use Rattle.distance.specs.Mho.{residual, kProduct, groundLoop, phaseLoop, loopsOf, mho, asserts, loopBits}
+use Rattle.differential.specs.Differential.{square, endRestraint, restraint, operates, operatingBits}
+use Rattle.decision.specs.Decision.{findings}
+use Rattle.claims.specs.Worked.{WorkedDecisions}
+
+pub worked-decisions : WorkedDecisions
+unfolding
+    findings operatingBits operates square restraint endRestraint rootUp floorRoot sumOf total plus minus times scaled dot squaredMagnitude rounded roundBy minusJ
+    phasorOf sumTo withSample sequence turned residual kProduct groundLoop phaseLoop loopsOf loopBits asserts mho reachesPickup torque sideOf directionOf
+worked-decisions = refl

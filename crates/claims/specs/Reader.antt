@@ -1,0 +1,105 @@
+-- Document 01, "What a reader may rely on", as one statement: each field is a promise about the calls, by name. proofs/Reader.antt is its
+-- witness. That a call ends and keeps to what it was lent is what it means to be proved; the window program's lines are proved in `report`.
+use Rattle.settings.specs.Examples.{AsFound, ByOffset}
+use Rattle.distance.specs.Laws.{MhoRule, LargerReach, NoPolarising, NoPositive, NeverBoth, ForwardRule, ReverseRule}
+use Rattle.differential.specs.Laws.{OperatesRule, SmallerSlope, NoneAt100, NeverTooSmall, ZeroWindow}
+use Rattle.differential.specs.Named.{NamedWindow, OneCountIsFalse, BandIsUsed}
+use Rattle.differential.specs.PaperMill.{PaperMill}
+use Rattle.gorsepetal.specs.Calls.{Proposed, Confirmed, ReadBack}
+use Rattle.gorsepetal.proofs.Contracts.{ProposeContract, ConfirmContract, ReadBackContract, DecideContract, DecideNumbersContract, WindowBytesContract}
+use Rattle.claims.specs.One.{OneProposed, OneConfirmed, OneReadBack, OneDecided, OneDecidedNumbers, NumberAndPlace}
+use Rattle.claims.specs.GivenBack.{ProposeAnswers, ConfirmAnswers, ReadBackAnswers, DecideAnswers}
+use Rattle.claims.specs.Settings.{GoodExactly, FreshHasNothing, AcceptedProposal, AcceptedConfirmation, GoodComesIntoForce, ReadsWhatIsInForce, ConfirmedReadsBack, RefusedEntry, NoThirdEntry, DiffersAtFirst, MissingInOrder, RefusedReadBack, RefusedDecide, NoRelayNoChange}
+use Rattle.claims.specs.WrongRelays.{NotZeroed, NotHandedOut}
+use Rattle.claims.specs.Demand1.{Demand1, OverHistories}
+use Rattle.claims.specs.Demand2.{Demand2}
+use Rattle.claims.specs.Demand3.{Demand3First, Demand3Second, TripHasReason, FaultTrips, ThroughDoesNot, ThroughIsQuiet}
+use Rattle.claims.specs.WhichRule.{WhichRule, WhichRuleOverHistories, WhichRecord, WhichRecordOverHistories, SaidTwiceReadsBack, SaidTwiceDecides}
+use Rattle.claims.specs.HandChecks.{HandChecks}
+use Rattle.claims.specs.Worked.{WorkedDecisions}
+use Rattle.claims.specs.Underneath.{RoundedOnce, RootsOnce}
+
+pub record Gorsepetal : Type 0 where
+  -- what the code promises is the claims that all of this speaks of, and it asks nothing of its caller
+  pub propose-contract : ProposeContract
+  pub confirm-contract : ConfirmContract
+  pub read-back-contract : ReadBackContract
+  pub decide-contract : DecideContract
+  pub decide-numbers-contract : DecideNumbersContract
+  pub window-bytes-contract : WindowBytesContract
+  -- no second result meets a claim
+  pub one-proposed : OneProposed
+  pub one-confirmed : OneConfirmed
+  pub one-read-back : OneReadBack
+  pub one-decided : OneDecided
+  pub one-decided-numbers : OneDecidedNumbers
+  pub number-and-place : NumberAndPlace
+  -- each number comes in its row's condition, and in no other
+  pub propose-answers : ProposeAnswers
+  pub confirm-answers : ConfirmAnswers
+  pub read-back-answers : ReadBackAnswers
+  pub decide-answers : DecideAnswers
+  -- demand 1: in force exactly when said twice
+  pub demand-1 : Demand1
+  pub over-histories : OverHistories
+  -- demand 2: every quantity equals its definition
+  pub demand-2 : Demand2
+  -- demand 3: how far rounding can move the decision
+  pub demand-3-first : Demand3First
+  pub demand-3-second : Demand3Second
+  pub trip-has-reason : TripHasReason
+  pub fault-trips : FaultTrips
+  pub through-does-not : ThroughDoesNot
+  pub through-is-quiet : ThroughIsQuiet
+  -- which rule had answered, and which record was read back
+  pub which-rule : WhichRule
+  pub which-rule-over-histories : WhichRuleOverHistories
+  pub which-record : WhichRecord
+  pub which-record-over-histories : WhichRecordOverHistories
+  pub said-twice-reads-back : SaidTwiceReadsBack
+  pub said-twice-decides : SaidTwiceDecides
+  -- what the desk may rely on, call by call
+  pub good-exactly : GoodExactly
+  pub fresh-has-nothing : FreshHasNothing
+  pub accepted-proposal : AcceptedProposal Proposed
+  pub accepted-confirmation : AcceptedConfirmation
+  pub good-comes-into-force : GoodComesIntoForce
+  pub reads-what-is-in-force : ReadsWhatIsInForce ReadBack
+  pub confirmed-reads-back : ConfirmedReadsBack
+  pub refused-proposal : RefusedEntry Proposed
+  pub refused-confirmation : RefusedEntry Confirmed
+  pub no-third-entry : NoThirdEntry
+  pub differs-at-first : DiffersAtFirst
+  pub missing-in-order : MissingInOrder
+  pub refused-read-back : RefusedReadBack
+  pub refused-decide : RefusedDecide
+  pub no-relay-no-change : NoRelayNoChange
+  -- and two relays that would hurt somebody, which these promises rule out
+  pub not-zeroed : NotZeroed
+  pub not-handed-out : NotHandedOut
+  -- the settings table: its order, and worked records
+  pub by-offset : ByOffset
+  pub as-found : AsFound
+  -- what a relay engineer will look for in the rules
+  pub mho-rule : MhoRule
+  pub larger-reach : LargerReach
+  pub no-polarising : NoPolarising
+  pub no-positive : NoPositive
+  pub never-both : NeverBoth
+  pub forward-rule : ForwardRule
+  pub reverse-rule : ReverseRule
+  pub operates-rule : OperatesRule
+  pub smaller-slope : SmallerSlope
+  pub none-at-100 : NoneAt100
+  pub never-too-small : NeverTooSmall
+  pub zero-window : ZeroWindow
+  -- the hand checks, and examples worked out
+  pub hand-checks : HandChecks
+  pub worked-decisions : WorkedDecisions
+  pub paper-mill : PaperMill
+  pub named-window : NamedWindow
+  pub band-is-used : BandIsUsed
+  pub one-count-is-false : OneCountIsFalse
+  -- what is underneath
+  pub rounded-once : RoundedOnce
+  pub roots-once : RootsOnce

@@ -1,0 +1,55 @@
+-- `decision::findings_in` meets its contract: the grid is filled from the window, so what is taken from it is what the definitions take from the
+-- window.
+use mathlib.Core.Path.{ap, ap₂, _∙_}
+use mathlib.Core.List.{List}
+use Prim.Native.Nat.{ℕ, _<_}
+use native.Mathlib.Omega.{arith}
+use borrow.Author.Needs.{needs}
+use denote.Ref.{now}
+use lib.IntN.{ℤ}
+use Rattle.phasors.specs.Grid.{voltagesOf, localCurrents, current}
+use Rattle.phasors.proofs.Totals.{filled-local}
+use Rattle.differential.specs.Differential.{comparisons, operatingBits}
+use Rattle.differential.proofs.Filled.{filled-comparisons}
+use Rattle.decision.specs.Decision.{rateOf, assertingBits, directionAt, findings}
+use Rattle.decision.proofs.findings_in.Statement.{statement}
+use Rattle.decision.proofs.findings_in.Tie as tie
+
+-- there is an end
+some : (c : tie.After-ends) → 0 < c .ends .result
+some c = omega (arith, c .ends .ensures, c .before .before .pre .0 .ends-range .least)
+
+asserting-bits-requires : tie.Need-asserting-bits-requires
+asserting-bits-requires c κs =
+    let l = c .before .before in
+    let n = l .before .before .before in
+    let grid = l .before .currents .ensures in
+    (n .before .before .pre .0, l .before .before .voltages .ensures .1, rw (l .local .ensures) (filled-local (grid .0) (grid .1) (some n) .1))
+
+returns : tie.Need-returns
+unfolding findings
+returns c =
+    let b = c .before .before in
+    let o = b .before in
+    let l = o .before in
+    let g = l .before in
+    let v = g .before in
+    let n = v .before in
+    let s : List ℕ = now (n .before .before .args .s) in
+    let w : List ℤ = now (n .before .before .args .window) in
+    let filled = g .currents .ensures .0 in
+    let ends = n .ends .ensures in
+    let voltages = v .voltages .ensures .0 ∙ ap (voltagesOf (rateOf s) w) ends in
+    let currents = l .local .ensures ∙ filled-local filled (g .currents .ensures .1) (some n) .0 ∙ ap (localCurrents (rateOf s) w) ends in
+    let compared = o .of-phases .ensures .0 ∙ filled-comparisons filled ∙ ap (λ k. comparisons (current (rateOf s) w k) k) ends in
+    let phases = b .operating-bits .ensures ∙ ap (operatingBits _ _) compared in
+    let loops = c .before .asserting-bits .ensures ∙ ap₂ (assertingBits s) voltages currents in
+    let direction = c .direction .ensures ∙ ap₂ (directionAt s) voltages currents in
+    (λ k. record { operating = phases k; asserting = loops k; direction = direction k; comparisons = compared k }, o .of-phases .ensures .1)
+
+pub findings-in-spec : {M : Type 1} → statement M
+findings-in-spec =
+    tie.close
+    (tie.spec
+    (λ c κs. search needs) (λ c κs. search needs) (λ c κs. search needs) (λ c κs. search needs)
+    (λ c κs. search needs) (λ c κs. search needs) asserting-bits-requires (λ c κs. asserting-bits-requires (c .before) κs) returns)

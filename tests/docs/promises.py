@@ -1,0 +1,57 @@
+"""Holds docs/CLAIMS.md to the one statement at the top: its fields are the list of promises."""
+import re
+from pathlib import Path
+
+import header
+from tree import ROOT, faults, read
+
+STATEMENT = Path('crates/claims/specs/Reader.antt')
+WITNESS = Path('crates/claims/proofs/Reader.antt')
+CONTRACTS = Path('crates/gorsepetal/proofs/Contracts.antt')
+CLAIMS = Path('docs/CLAIMS.md')
+
+
+def fields():
+    """Each promise of the statement, with its type."""
+    return dict(re.findall(r'^  pub (\S+) : (.+)$', read(STATEMENT), flags=re.MULTILINE))
+
+
+def named(page):
+    """The promises that the page's table of them names."""
+    section = re.search(r'^## The one statement$.*?(?=^## )', page, flags=re.DOTALL | re.MULTILINE)
+    rows = re.findall(r'^\|[^|]*\|([^|]*)\|$', section.group(), flags=re.MULTILINE) if section else []
+    return {name for row in rows for name in re.findall(r'`([^`]+)`', row)}
+
+
+# What is stated in crates/claims as a part of promises, and is none itself.
+PARTS = {'Complex', 'OneResult'}
+
+
+def unused(promised):
+    """Statements of crates/claims that no promise is made of."""
+    types = ' '.join(promised.values())
+    for path in (ROOT / 'crates/claims/specs').glob('*.antt'):
+        for name in re.findall(r'^abbrev pub (\w+) : (?:Claim → )?Type 0$', path.read_text(encoding='utf-8'), flags=re.MULTILINE):
+            if name not in PARTS and not re.search(rf'(?<![\w-]){name}(?![\w-])', types):
+                yield path.relative_to(ROOT), name
+
+
+def check_promises():
+    """The page names each promise and no other, the witness gives each, each exported function has its contract and its one result among
+    them, and no statement of crates/claims is left out."""
+    page, witness, promised = read(CLAIMS), read(WITNESS), fields()
+    if len(promised) != len(re.findall(r'^  pub ', read(STATEMENT), flags=re.MULTILINE)):
+        faults.append(f'{STATEMENT}: a promise is not on one line, and this check does not see it')
+    faults.extend(f'{CLAIMS}: its table does not name the promise `{name}` of {STATEMENT}' for name in promised if name not in named(page))
+    faults.extend(f'{CLAIMS}: its table names `{name}`, which is no promise of {STATEMENT}' for name in sorted(named(page) - set(promised)))
+    faults.extend(f'{WITNESS}: no `{name}`' for name in promised if not re.search(rf'^  {re.escape(name)} = ', witness, flags=re.MULTILINE))
+    for function in header.exported():
+        call = function.removeprefix('gorsepetal_')
+        statement = ''.join(word.capitalize() for word in call.split('_')) + 'Contract'
+        if promised.get(f'{call.replace("_", "-")}-contract') != statement:
+            faults.append(f'{STATEMENT}: {function}, which C can call, has no contract of type {statement} among the promises')
+        claim = re.search(rf'^{statement} =\n.*\n.* \((\w+) \(now s\)', read(CONTRACTS), flags=re.MULTILINE)
+        if not claim or f'One{claim.group(1)}' not in promised.values():
+            faults.append(f'{STATEMENT}: no promise that {function} has one result')
+    faults.extend(f'{path}: no promise of {STATEMENT} is `{name}`' for path, name in unused(promised))
+    return len(promised)
