@@ -13,22 +13,23 @@ static void put(uint8_t *record, int at, int number) {
   record[at + 1] = (uint8_t)((unsigned)number & 255);
 }
 
-enum { ENDS = 2, CHANNELS = 3 + 3 * ENDS, WINDOW = GORSEPETAL_WINDOW_BYTES(ENDS) };
+enum { ENDS = 2, CHANNELS = GORSEPETAL_CHANNELS(ENDS), WINDOW = GORSEPETAL_WINDOW_BYTES(ENDS) };
 
-/* The settings of a line with two ends, all but the slope as the planning department gave them. */
+/* The settings of a line with two ends, all but the slope as the planning department gave them, in the units of the record.
+** examples/line.c shows the way there from volts, ampere and ohms. */
 static void fill(uint8_t record[GORSEPETAL_RECORD_LENGTH], int slope) {
   for (int i = 0; i < GORSEPETAL_RECORD_LENGTH; i++) record[i] = 0;
   put(record, GORSEPETAL_AT_ENDS, ENDS);
   put(record, GORSEPETAL_AT_SLOPE, slope);               /* percent */
   put(record, GORSEPETAL_AT_PICKUP, 60);                 /* of the differential, counts */
   put(record, GORSEPETAL_AT_REPLICA_REAL, 0);
-  put(record, GORSEPETAL_AT_REPLICA_IMAGINARY, 1000);    /* thousandths */
+  put(record, GORSEPETAL_AT_REPLICA_IMAGINARY, 1000);    /* thousandths of a voltage count per current count */
   put(record, GORSEPETAL_AT_REACH, 850);                 /* thousandths of the replica */
-  put(record, GORSEPETAL_AT_K_REAL, 667);                /* thousandths */
+  put(record, GORSEPETAL_AT_K_REAL, 667);                /* thousandths, a ratio */
   put(record, GORSEPETAL_AT_K_IMAGINARY, 0);
-  put(record, GORSEPETAL_AT_ANGLE_REAL, 0);              /* of the line */
+  put(record, GORSEPETAL_AT_ANGLE_REAL, 0);              /* of the line: 1000 (cos, sin) of 90 degrees */
   put(record, GORSEPETAL_AT_ANGLE_IMAGINARY, 1000);
-  put(record, GORSEPETAL_AT_FORWARD_LIMIT, -300);
+  put(record, GORSEPETAL_AT_FORWARD_LIMIT, -300);        /* in the replica's unit */
   put(record, GORSEPETAL_AT_REVERSE_LIMIT, 300);
   put(record, GORSEPETAL_AT_NEGATIVE_SEQUENCE_PICKUP, 50); /* counts */
 }
@@ -63,7 +64,7 @@ static void read_back(const uint8_t *state) {
   if (answer != GORSEPETAL_DONE) return; /* then nothing was written to out */
   printf("  in force:");
   for (int i = 0; i < GORSEPETAL_RECORD_LENGTH; i++) printf("%s%02X", i % 2 ? "" : " ", out[i]);
-  printf("\n  slope in force: %d percent\n", 256 * out[2] + out[3]);
+  printf("\n  slope in force: %d percent\n", 256 * out[GORSEPETAL_AT_SLOPE] + out[GORSEPETAL_AT_SLOPE + 1]);
 }
 
 /* The sample of a channel in a frame: Va, Vb, Vc are channels 0 to 2, the currents of end 1 are 3 to 5, of end 2 6 to 8. */
@@ -84,8 +85,10 @@ static void decide(const char *step, const uint8_t *state, const uint8_t *window
   uint64_t answer = gorsepetal_decide(state, GORSEPETAL_STATE_LENGTH, window, WINDOW, out, sizeof out);
   report(step, answer);
   if (answer != GORSEPETAL_DONE) return; /* then nothing was written to out, and the relay has no decision */
-  printf("  trip %d, phases %d, loops %d, direction %d\n", out[0], out[1], out[2], out[3]);
-  printf("  phase a: differential %d and restraint %d sixty-fourths of a count\n", word(out + 20), word(out + 8));
+  printf("  trip %d, phases %d, loops %d, direction %d\n", out[GORSEPETAL_DECISION_AT_TRIP], out[GORSEPETAL_DECISION_AT_PHASES],
+         out[GORSEPETAL_DECISION_AT_LOOPS], out[GORSEPETAL_DECISION_AT_DIRECTION]);
+  printf("  phase a: differential %d and restraint %d sixty-fourths of a count\n", word(out + GORSEPETAL_DECISION_AT_DIFFERENTIAL_A),
+         word(out + GORSEPETAL_DECISION_AT_RESTRAINT_A));
 }
 
 int main(void) {
@@ -105,7 +108,7 @@ int main(void) {
   read_back(state);
 
   outfeed(fault);
-  sample(broken, 3, 7, -32768); /* Ib of end 2 did not come */
+  sample(broken, 3, 7, GORSEPETAL_MISSING); /* Ib of end 2 did not come */
   decide("decide, quiet", state, quiet);
   decide("decide, a sample missing", state, broken);
   decide("decide, outfeed fault", state, fault);

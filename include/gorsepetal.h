@@ -1,109 +1,308 @@
 /*
-** gorsepetal.h: the protection core of a line relay, for C. This file is the manual.
+** gorsepetal.h: the protection core of a line relay, for C. This file is the manual: a line can be
+** set, and a decision checked, with nothing else at hand.
+**
+** Contents: what the library is / in short / lent slices / the relay's state / what comes back /
+** two entries / settings record / units / what each field should be / conventions / a line of three
+** ends, worked out / window / decision / rules / a decision, worked out / outside the library /
+** limits / constants / the four calls.
 **
 ** WHAT THE LIBRARY IS
 **
-** libgorsepetal.a turns what the commissioning desk enters and one cycle of samples of the line into a decision. A settings
-** record comes into force only when the same 32 bytes are proposed and then confirmed; it can be read back. Decide measures a
-** window of samples by the record in force, and says whether to trip and why.
+** libgorsepetal.a turns what the commissioning desk enters and one cycle of samples of the line
+** into a decision. A settings record comes into force only when the same 32 bytes are proposed and
+** then confirmed; it can be read back. Decide measures a window of samples by the record in force,
+** and says whether to trip and why.
 **
-** The library keeps nothing between calls, allocates nothing, and calls nothing but memcpy and memset, which a C compiler may use in
-** any code: the archive has no other undefined symbol. All that a call reads or writes is lent to it for that call. So several
-** threads may call at once, each on a relay's state and on buffers of its own. The archive is for x86-64, System V calling
-** convention. What is proved of its source, and what is only tested of the archive, stands in docs/CLAIMS.md.
+** The library keeps nothing between calls and allocates nothing. It calls nothing but memcpy and
+** memset, which a C compiler may use in any code: the archive has no other undefined symbol. All
+** that a call reads or writes is lent to it for that call. So several threads may call at once,
+** each on a relay's state and on buffers of its own. The archive is for x86-64, System V calling
+** convention. docs/CLAIMS.md says what is proved of its source, and what is only tested of the
+** archive.
 **
-** A call takes less than 2 KiB of stack, and a number of instructions that depends on the ends of the line and on nothing that could
-** grow: docs/BENCHMARKS.md has the figures, which are measured and not proved.
+** A call takes less than 2 KiB of stack. How many instructions it takes depends on the ends of the
+** line, and has a bound. docs/BENCHMARKS.md has the figures, which are measured and not proved.
+**
+** IN SHORT
+**
+**   static uint8_t relay[GORSEPETAL_STATE_LENGTH];   (all zero: nothing is in force)
+**
+**   if (gorsepetal_propose(relay, sizeof relay, first, first_len) == GORSEPETAL_DONE &&
+**       gorsepetal_confirm(relay, sizeof relay, second, second_len) == GORSEPETAL_DONE)
+**     in_force();
+**   if (gorsepetal_decide(relay, sizeof relay, window, window_len, out, sizeof out) ==
+**       GORSEPETAL_DONE)
+**     trip(out[GORSEPETAL_DECISION_AT_TRIP]);
+**
+** Only after an answer of 0 is there a decision. Link libgorsepetal.a.
 **
 ** LENT SLICES
 **
-** Each slice is a pointer and a length in bytes, which have to be true; no call can check them. Every length has a defined
-** answer, a wrong one too.
-**   - The pointer is never null, not even with length 0. With length 0 it may be any valid pointer that is not null; it is never
-**     read or written through.
+** Each slice is a pointer and a length in bytes. The slice has to be really that long: no call can
+** see whether it is. A slice whose length is not the one that a call wants has a defined answer.
+**   - The pointer is never null, not even with length 0. With length 0 it may be any valid pointer
+**     that is not null; it is never read or written through.
 **   - The slice lies within one object. It may begin at any address: nothing needs to be aligned.
-**   - The slices of a call do not overlap. During the call no other thread writes to any of them, nor reads one that is not const.
+**   - The slices of a call do not overlap. During the call no other thread writes to any of them,
+**     nor reads one that is not const.
 **   - A const slice is never written, whatever the answer.
+**
+** One overlap defeats the two entries: an `entry` that points at the state's own pending bytes,
+** state + GORSEPETAL_STATE_AT_PENDING, confirms itself. So does a buffer that is kept from the
+** proposal and lent once more. No call can see either. The firmware has to lend confirm the bytes
+** that a person entered the second time, in a buffer that was filled anew.
 **
 ** THE RELAY'S STATE
 **
-** A relay is 64 bytes that the firmware owns, GORSEPETAL_STATE_LENGTH. All zero bytes are a fresh relay: nothing in force and
-** nothing pending. No call is needed to begin or to end with one.
+** A relay is 64 bytes that the firmware owns, GORSEPETAL_STATE_LENGTH. All zero bytes are a fresh
+** relay: nothing in force and nothing pending. No call is needed to begin or to end with one.
 **
 **   bytes 0 to 31    the settings record in force
 **   bytes 32 to 63   the pending record: proposed and not yet confirmed
 **
-** A record there that propose would refuse counts as absent, wherever its bytes came from; all zero bytes are such a record. The
-** firmware may keep the 64 bytes in permanent memory and lend them again, and should not write to them otherwise. A byte damaged
-** there is noticed only if the record is then out of range: the record has no checksum. It is best to lend a copy in working memory and
-** to store it whole after the call: a call that is cut off midway, as by a loss of power, may leave a record that is part old and
-** part new.
+** A record there that propose would refuse counts as absent, wherever its bytes came from; all zero
+** bytes are such a record. The firmware may keep the 64 bytes in permanent memory and lend them
+** again, and should not write to them otherwise. A byte damaged there is noticed only if the record
+** is then out of range: the record has no checksum. It is best to lend a copy in working memory and
+** to store it whole after the call: a call that is cut off midway, as by a loss of power, may leave
+** a record that is part old and part new.
+**
+** A pending record that was stored can still be confirmed after a restart. To drop it, make an
+** entry of length 0, which is refused with 5. To take all settings away, begin again with 64 zero
+** bytes.
 **
 ** WHAT COMES BACK
 **
-** Each call gives back one number, 256 times the place plus the number of the table. GORSEPETAL_NUMBER and GORSEPETAL_PLACE take
-** them apart.
+** Each call gives back one number, 256 times the place plus the number of the table.
+** GORSEPETAL_NUMBER and GORSEPETAL_PLACE take them apart.
 **
-**   number  name                 when                                 place                    given by
-**   0       DONE                 done                                 0                        every call
-**   1       NO_SETTINGS          no settings in force                 0                        decide, read_back
-**   2       OTHER_WINDOW_LENGTH  the window is of another length      0                        decide
-**   3       NO_ROOM              room below 32 bytes                  0                        decide, read_back
-**   4       MISSING_SAMPLE       a sample is missing                  index of the first       decide
-**   5       OTHER_ENTRY_LENGTH   the settings entry is not 32 bytes   0                        propose, confirm
-**   6       OUT_OF_RANGE         a field is out of range              offset of the first      propose
-**   7       NOTHING_PENDING      nothing is pending                   0                        confirm
-**   8       DIFFERS              the confirmation differs             first differing offset   confirm
-**   17      NO_RELAY             the state slice is not 64 bytes      0                        every call
+**   number  name                 when                      place                 given by
+**   0       DONE                 done                      0                     every call
+**   1       NO_SETTINGS          no settings in force      0                     decide, read_back
+**   2       OTHER_WINDOW_LENGTH  window of another length  0                     decide
+**   3       NO_ROOM              room below 32 bytes       0                     decide, read_back
+**   4       MISSING_SAMPLE       a sample is missing       index of the first    decide
+**   5       OTHER_ENTRY_LENGTH   entry not 32 bytes        0                     propose, confirm
+**   6       OUT_OF_RANGE         a field is out of range   the field's offset    propose
+**   7       NOTHING_PENDING      nothing is pending        0                     confirm
+**   8       DIFFERS              confirmation differs      offset of first byte  confirm
+**   17      NO_RELAY             state not 64 bytes        0                     every call
 **
-** No number is given back in any other condition, and no other number by these calls. Where several conditions hold, the first
-** in the call's order of checks is given.
+** No number is given back in any other condition, and no other number by these calls. Where several
+** conditions hold, the first in the call's order of checks is given. 9 to 16 are not in use.
+**
+** TWO ENTRIES
+**
+** A record comes into force only by two entries with no other entry between them. Decide and
+** read-back are no entries and change nothing, so they may come between.
+**
+**                    propose, done               confirm, done
+**   +---------+    ---------------->   +-----+   -------------->   the record is in force,
+**   | nothing |                        | one |                     and nothing is pending
+**   | pending |    <----------------   |     |   ----+
+**   +---------+   any entry refused:   +-----+       |  propose, done: the new entry is
+**                     5, 6, 7, 8          ^----------+  pending in place of the old one
+**
+**   propose, done (0)                the entry is pending, in place of any earlier pending record
+**   propose, refused (5, 6)          nothing is pending
+**   confirm, done (0)                the pending record is in force, and nothing is pending
+**   confirm, refused (5, 7, 8)       nothing is pending
+**   17, from any call                nothing has changed: no relay was lent
+**
+** The record in force stays until a confirmation is answered 0. No refusal removes it, and no
+** proposal. After a mismatch both entries have to be made again: a third entry cannot confirm.
 **
 ** SETTINGS RECORD
 **
-** 32 bytes, GORSEPETAL_RECORD_LENGTH, no header. All fields are 16 bits, upper byte first; signed ones are two's complement.
+** 32 bytes, GORSEPETAL_RECORD_LENGTH, no header. All fields are 16 bits, upper byte first; those
+** that say so are signed, in two's complement, and the others are not. The name in the second
+** column follows GORSEPETAL_AT_.
 **
-**   at   field                                           from     to
-**   0    ends of the line, N                             2        6
-**   2    slope K, percent                                1        100
-**   4    differential pickup, counts                     1        42000
-**   6    replica impedance, real part, thousandths       0        20000
-**   8    replica impedance, imaginary part, thousandths  1        20000
-**   10   reach r, thousandths of the replica             1        2000
-**   12   k, real part, thousandths                       0        1000
-**   14   k, imaginary part, thousandths, signed          -500     500
-**   16   line angle D, real part                         0        1000
-**   18   line angle D, imaginary part                    0        1000
-**   20   forward limit zf, signed                        -20000   20000
-**   22   reverse limit zr, signed                        -20000   20000
-**   24   pickup of 3I2, counts                           1        42000
-**   26   six spare bytes                                 0        0
+**   at  name                      field                         unit            from    to
+**   0   ENDS                      N, ends of the line           -               2       6
+**   2   SLOPE                     K                             percent         1       100
+**   4   PICKUP                    differential pickup           counts of peak  1       42000
+**   6   REPLICA_REAL              replica Z, real part          0.001 V/I       0       20000
+**   8   REPLICA_IMAGINARY         replica Z, imaginary part     0.001 V/I       1       20000
+**   10  REACH                     reach r                       0.001 of Z      1       2000
+**   12  K_REAL                    k, real part                  0.001           0       1000
+**   14  K_IMAGINARY               k, imaginary part, signed     0.001           -500    500
+**   16  ANGLE_REAL                line angle D, real part       0.001           0       1000
+**   18  ANGLE_IMAGINARY           line angle D, imaginary part  0.001           0       1000
+**   20  FORWARD_LIMIT             forward limit zf, signed      0.001 V/I       -20000  20000
+**   22  REVERSE_LIMIT             reverse limit zr, signed      0.001 V/I       -20000  20000
+**   24  NEGATIVE_SEQUENCE_PICKUP  pickup of 3I2                 counts of peak  1       42000
+**   26  -                         six spare bytes               -               0       0
 **
-** The squares of the two parts of D sum to 998000 at least and 1002000 at most; a fault is reported at 18. zf is below zr; a
-** fault is reported at 22. The fields are checked in order of offset, and these two rules when the range at their offset has
-** passed. A spare byte that is not zero is reported at its own offset, 26 to 31.
+** V/I is one voltage count per current count. It is NOT an ohm: the next section has the way from
+** ohms.
+**
+** The squares of the two parts of D sum to 998000 at least and 1002000 at most; a fault is reported
+** at 18. zf is below zr; a fault is reported at 22. The fields are checked in order of offset, and
+** each of these two rules right after the range at its offset. A spare byte that is not zero is
+** reported at its own offset, 26 to 31.
+**
+** UNITS
+**
+** The library knows counts and nothing else: it is told no volts, no ampere and no ohms. A count is
+** the unit of a sample. A steady wave of peak p has a phasor of p counts, so pickups are peak
+** values, not effective ones. Two figures of the firmware turn secondary values into settings:
+**
+**   cv   counts per volt: what one volt at the relay's terminals comes to in a sample
+**   ci   counts per ampere at the relay's terminals of end 1
+**
+**   Z, zf, zr     thousandths of V/I, a voltage count per current count
+**                 setting = 1000 x ohms(secondary) x cv / ci
+**   r             thousandths of Z: 800 reaches as far as 0.8 Z
+**   k             1000 x (Z0 - Z1) / (3 Z1), a ratio: cv and ci have no part in it
+**   D             1000 x (cos, sin) of the line angle, the angle of Z1
+**   pickups       counts of peak = 1.4142 x ampere(secondary, effective) x ci
+**   K             percent of the restraint, the sum of the magnitudes of the currents of all ends
+**
+** From primary values, with the ratios of end 1 (800/5 A is 160, 132000/110 V is 1200):
+**
+**   ampere(secondary) = ampere(primary) / CT ratio
+**   ohms(secondary)   = ohms(primary) x CT ratio / VT ratio
+**
+** Settings are whole numbers. Round to the nearest; where a bound has to be kept, to its safe side:
+** Z and r down, a pickup that must not be undercut up.
+**
+** The mho rule uses the product r x Z and nothing else of the two. Where Z1 comes to more than
+** 20000, enter half of it as Z and twice the r: 1640 with Z1 / 2 is 820 with Z1. A zf or zr beyond
+** 20000 is entered as 20000, with its sign.
+**
+** WARNING. No range can tell one unit from another. With cv / ci = 1/2 a replica entered in
+** thousandths of an ohm is twice as large as it should be: propose and confirm both answer 0, and
+** at r = 800 zone 1 reaches 160 percent of the line. With cv / ci above 1 it reaches too short. So
+** work the settings out with cv and ci, let a second person do it too, and then test both:
+**   - Reach, with a test set, when the settings are in force: Vb and Vc sound, Va in their middle
+**     and smaller, current on phase a alone, Ia behind Va by the angle of Z1 (1 + k). As
+**     magnitudes, in volts, ampere and ohms, with r as a fraction: Va = f x r x Z1 (1 + k) x Ia.
+**     Loop AG, bit 1 of byte 2, has to assert at f = 0.95 and not at f = 1.05. No other test sees a
+**     wrong unit.
+**   - Currents, under a load of known size: U (bytes 8 to 19) has to be 64 x the peak counts, added
+**     up over the ends, and the differential (bytes 20 to 31) no more than the charging current.
+**
+** WHAT EACH FIELD SHOULD BE
+**
+**   N    every end that sends its currents, the local one too. A tap that sends none is no end;
+**        what it takes flows in and not out again, and the pickup has to lie above it.
+**   K    percent, above what a current through the line can fake, below what a fault leaves that
+**        has to trip. Current transformers with an error of e percent at every end fake at most e
+**        percent. On two ends, clocks that differ by an angle d fake sin(d / 2): 9 percent for 10
+**        degrees. Load that flows through a fault adds to the restraint alone, and a fault that
+**        lets current out at an end leaves (in - out) / (in + out): 100 in and 40 out are 43
+**        percent, which slope 15 sees and slope 50 does not. At 100 no phase ever operates: the
+**        differential is off.
+**   pickup
+**        above the charging current of the line, which flows in and not out again and is not
+**        compensated here, and above what the error of the transformers adds to it; below the
+**        smallest fault current that has to trip. Each component of an end's phasor is rounded by
+**        half a count at most, so a differential of N ends is known to within 0.71 N counts.
+**   Z, r the replica Z is Z1, the positive sequence impedance of the line from the relay to the far
+**        end, and r the part of it that zone 1 covers, usually 800 to 850. There is no delay: a
+**        loop that asserts trips if the direction is forward. So r x Z has to stay below Z1. With
+**        more than two ends take the far end with the SMALLEST Z1: zone 1 then covers so many ohms
+**        on the way to every end, and the differential covers all of the line. Beyond the tee,
+**        current that another end feeds in makes a loop see a fault farther away than it is;
+**        current that an end lets out makes it see the fault nearer, and r has to be smaller there.
+**        Distance cannot be switched off; r = 1 leaves a thousandth of it.
+**   k, D of the line from the relay to that same end.
+**   zf   the relay measures V2 / I2, its part along the line angle. For a fault ahead that is minus
+**        Zb, the negative sequence impedance of the SOURCE BEHIND the relay. That is why zf is
+**        negative: forward means below zf. Every Zb has to be told as forward, so -Zb < zf for the
+**        strongest source, which has the smallest Zb; the largest plays no part. Usual is minus
+**        half of it: zf = -Zb / 2. Where Zb can come near zero, zf goes up to zero or beyond.
+**   zr   for a fault behind, V2 / I2 is plus Za, the impedance of what lies AHEAD: the line and the
+**        sources at its far ends; with several ends, those are in parallel beyond the tee. zr < Za
+**        for the smallest Za, with the strongest sources there; usual is zr = Za / 2. Where the
+**        angle of Zb or Za is not the line angle, its part along it counts: its magnitude times the
+**        cosine of the difference.
+**   pickup of 3I2
+**        above the unbalance of the largest load; below 3I2 of the smallest fault that has to be
+**        told apart. 3I2 is three times the negative sequence current: a fault from one phase to
+**        ground with current I in that phase and none in the others has a 3I2 of I.
+**
+** CONVENTIONS
+**
+**   - Rotation is ABC: Vb lags Va by 120 degrees.
+**   - Voltages are phase to ground, of end 1.
+**   - Currents are positive INTO THE LINE, at every end. A load current through a line of two ends
+**     has opposite signs at its two ends, and the sum over all ends is what the line itself takes.
+**   - A count of current is the same primary current at every end. Where an end has another
+**     transformer ratio or another ci, the firmware scales its samples to end 1, to the nearest
+**     whole number: a transformer of 300/1 A beside one of 600/1 A at end 1 gives samples that are
+**     to be halved. A missing sample stays -32768 and is not scaled; what would leave -32767 to
+**     32767 is clipped.
+**   - All samples of a frame are of one moment. Clocks are aligned before decide is called.
+**
+** A current transformer that is reversed at one end looks like this. Under load the differential
+** is twice that end's current. On a line of two ends that is 100 percent of the restraint, so the
+** phase operates at every slope up to 99 as soon as its pickup is reached. With one phase reversed
+** at end 1, 3I2 is twice that phase's load current, so a direction may appear under load. With all
+** three reversed at end 1, T has the other sign: a fault ahead looks like one behind.
+**
+** A LINE OF THREE ENDS, WORKED OUT
+**
+** 50 Hz; all values secondary, at end 1. The firmware has cv = 100 counts per volt and ci = 200
+** counts per ampere, so cv / ci = 0.5.
+**
+**   given                                             setting
+**   three ends                                        N    = 3
+**   slope 30 percent                                  K    = 30
+**   differential pickup 0.2 A                         57   (1.4142 x 0.2 x 200 = 56.57)
+**   Z1 to the far end where it is smallest:
+**   0.8 + j 4.0 ohm                                   Z    = 1000 x 0.5 x .. = 400 + j 2000
+**   zone 1 covers 80 percent of it                    r    = 800
+**   Z0 of the same part: 2.0 + j 11.6 ohm             k    = 1000 x (1.2 + j 7.6) / (2.4 + j 12.0)
+**                                                          = 628 + j 26
+**   line angle: that of 0.8 + j 4.0, 78.69 degrees    D    = 1000 (0.1961, 0.9806) = 196 + j 981
+**   smallest Zb, of the source behind: 0.9 ohm        zf   = -0.45 ohm = -1000 x 0.45 x 0.5 = -225
+**   smallest Za, of what lies ahead: 2.6 ohm          zr   = +1.3 ohm = 1000 x 1.3 x 0.5 = 650
+**   pickup of 3I2 0.1 A                               28   (1.4142 x 0.1 x 200 = 28.28)
+**
+** As 32 bytes, two a field:
+**
+**   0003 001E 0039 0190 07D0 0320 0274 001A 00C4 03D5 FF1F 028A 001C 0000 0000 0000
+**
+** In thousandths of an ohm Z would have been 800 + j 4000: a good record too, and a reach of 160
+** percent of the line.
 **
 ** WINDOW
 **
-** One cycle of samples: 16 frames in time order. Each frame has Va, Vb, Vc, then Ia, Ib, Ic of end 1, the local end, then of end 2,
-** and so on up to end N. Each sample is a signed number of 16 bits, two's complement, upper byte first. So a window has
-** 16(3 + 3N) numbers, and twice as many bytes, GORSEPETAL_WINDOW_BYTES(N):
+** One cycle of samples, 16 frames in time order, the oldest first: 800 frames a second at 50 Hz,
+** 960 at 60 Hz. Each frame has Va, Vb, Vc, then Ia, Ib, Ic of end 1, the local end, then of end 2,
+** and so on up to end N. Each sample is a signed number of 16 bits, two's complement, upper byte
+** first. So a window has 16(3 + 3N) numbers, and twice as many bytes, GORSEPETAL_WINDOW_BYTES(N):
 **
 **   N         2     3     4     5     6
 **   numbers   144   192   240   288   336
 **   bytes     288   384   480   576   672
 **
-** The number of frame f and channel c, both counted from 0, has the index (3 + 3N)f + c. The number -32768, bytes 80 00, marks a
-** missing sample. A count is the unit of a sample: a steady wave of peak p has a phasor of p counts, so pickups are peak values, not
-** effective ones.
+** The indexes of a window of three ends, GORSEPETAL_CHANNELS(3) = 12 numbers a frame:
+**
+**                 voltages      end 1         end 2         end 3
+**                 Va  Vb  Vc    Ia  Ib  Ic    Ia  Ib  Ic    Ia  Ib  Ic
+**   frame 0        0   1   2     3   4   5     6   7   8     9  10  11
+**   frame 1       12  13  14    15  16  17    18  19  20    21  22  23
+**   ..
+**   frame 15     180 181 182   183 184 185   186 187 188   189 190 191
+**
+** The number of frame f and channel c, both counted from 0, has the index (3 + 3N)f + c, and its
+** two bytes begin at twice that. A window may begin at any frame, and windows may overlap: decide
+** may be called with every new frame, each time on the newest 16. The number -32768,
+** GORSEPETAL_MISSING, bytes 80 00, marks a missing sample. A converter has to clip at -32767 and
+** 32767: see LIMITS.
 **
 ** DECISION
 **
-** 32 bytes, GORSEPETAL_DECISION_LENGTH. U is the restraint of a phase and s the squared magnitude of its differential, so that U
-** and the root of 4096 s are both in sixty-fourths of a count.
+** 32 bytes, GORSEPETAL_DECISION_LENGTH. U is the restraint of a phase and s the squared magnitude
+** of its differential; the next section has the formulas. U and the root of 4096 s are both in
+** sixty-fourths of a count.
 **
 **   bytes      content
-**   0          trip: 1 if any phase operates, or if the direction is forward and any loop asserts; else 0
+**   0          trip: 1 or 0
 **   1          the phases whose differential operates, added up: a=1, b=2, c=4
 **   2          the loops that assert, added up: AG 1, BG 2, CG 4, AB 8, BC 16, CA 32
 **   3          direction: 0 none, 1 forward, 2 reverse
@@ -115,16 +314,110 @@
 **   24 to 27   the same of phase b
 **   28 to 31   the same of phase c
 **
+** RULES
+**
+** All in whole numbers; settings stand in the formulas as the numbers of the record. A complex
+** number is (x, y); (x, y)(u, v) = (xu - yv, xv + yu); Re(p q*) of p = (x, y) and q = (u, v) is
+** xu + yv; |p|^2 = Re(p p*). "By d": what stands before it is formed whole, with its sign, and each
+** component is then divided by d to the nearest whole number; a tie goes up: floor((x + d/2) / d).
+**
+** Phasor of a channel with samples x[0] to x[15], in counts of peak:
+**
+**   C[n]   16384 15137 11585 6270 0 -6270 -11585 -15137
+**          -16384 -15137 -11585 -6270 0 6270 11585 15137
+**   S[n]   C[(n + 12) mod 16]
+**   phasor (sum of x[n] C[n], minus the sum of x[n] S[n]) by 131072
+**
+** Sequence quantities, of end 1, with a = (-8192, 14189) and a2 = (-8192, -14189):
+**
+**   3V1    (16384 Va + a Vb + a2 Vc) by 16384
+**   3V2    (16384 Va + a2 Vb + a Vc) by 16384
+**   3I2    (16384 Ia + a2 Ib + a Ic) by 16384
+**
+** Direction, with T = Re[3V2 (D 3I2)*]; the first line that holds:
+**
+**   none      |3I2|^2 < (pickup of 3I2)^2
+**   forward   T < zf |3I2|^2
+**   reverse   T > zr |3I2|^2
+**   none      otherwise
+**
+** Loops, of end 1. P = 3V1. aP = a P by 16384 and a2P = a2 P by 16384 are rounded first; minus j
+** rounds nothing: -j(x, y) = (y, -x). E = k (Ia + Ib + Ic) by 1000.
+**
+**   loop   V         I         Vp              loop   V         I         Vp
+**   AG     Va        Ia + E    P               AB     Va - Vb   Ia - Ib   -j aP
+**   BG     Vb        Ib + E    a2P             BC     Vb - Vc   Ib - Ic   -j P
+**   CG     Vc        Ic + E    aP              CA     Vc - Va   Ic - Ia   -j a2P
+**
+**   n = Re(V Vp*), m = Re(Z I Vp*); a loop asserts exactly when m > 0 and 1000000 n <= r m
+**
+** Differential of a phase, over the phasors I1 to IN of its currents, one of each end:
+**
+**   s = |I1 + .. + IN|^2
+**   U = the sum over the ends of the smallest whole number whose square is at least 4096 |I|^2
+**   the phase operates exactly when s >= pickup^2 and 40960000 s > (K U)^2
+**
+** Trip: 1 exactly when a phase operates, or the direction is forward and a loop asserts.
+**
+** A DECISION, WORKED OUT
+**
+** The record of the three-ended line above. A channel with 8x in frame 0, -8y in frame 4 and 0 in
+** the other frames has exactly the phasor (x, y), for x and y up to 4095. So this window is soon
+** made:
+**
+**   Va (1000, 0)   Vb (-1000, -1732)   Vc (-1000, 1732)
+**   Ia of end 1 (110, -590)   Ia of end 2 (40, -200)   all other currents (0, 0)
+**
+**   3V1 = (5000, 0)   3V2 = (-1000, 0)   3I2 = (110, -590)   |3I2|^2 = 360200, above 28^2
+**   D 3I2 = (600350, -7730)   T = -600350000, below -225 x 360200 = -81045000: forward
+**   E = (84420, -367660) by 1000 = (84, -368)
+**   AG: I = (194, -958)   n = 5000000   m = 9968000000
+**       1000000 n = 5000000000000 <= 800 m = 7974400000000: asserts
+**   AB: n = 12990000   m = 5259920000: 12990000000000 > 4207936000000, does not assert
+**   phase a: s = 150^2 + 790^2 = 646600, above 57^2; U = 38411 + 13054 = 51465
+**       40960000 s = 26484736000000 > (30 x 51465)^2 = 2383781602500: operates
+**   root of 4096 s: 51463
+**
+** The other loops do not assert, and phases b and c have s = U = 0. The 32 bytes:
+**
+**   01 01 01 01 00 00 00 00 00 00 C9 09 00 00 00 00 00 00 00 00 00 00 C9 07 00 00 00 00 00 00 00 00
+**
 ** OUTSIDE THE LIBRARY
 **
-** Transformer differential, travelling waves, alignment of clocks and polarising memory.
+** Transformer differential, travelling waves, alignment of clocks and polarising memory. So are the
+** compensation of charging current, the supervision of the voltage transformers' fuses, the
+** saturation of current transformers, the analog filter in front of the converter, and timers.
 **
 ** LIMITS
 **
 ** What a decision cannot tell:
-**   - a balanced three-phase fault has no negative sequence, so its direction is none and distance cannot trip on it;
-**   - where the polarising quantity Vp is zero, no loop asserts;
-**   - clipped samples are not detected.
+**   - A balanced three-phase fault has no negative sequence, so its direction is none and distance
+**     cannot trip on it. The differential can.
+**   - Where the polarising quantity Vp is zero, as in a fault next to the relay with all three
+**     voltages gone, no loop asserts. A voltage that is lost to a blown fuse looks like a fault to
+**     the loops; it trips only if the direction is forward too, which takes a 3I2 at its pickup.
+**   - Clipped samples are not detected. A converter that clips at -32768 turns a heavy fault into
+**     refusal 4, a missing sample, and there is no decision just then. It has to clip at -32767, at
+**     every end.
+**   - While a far end's samples are missing there is no decision, by distance neither. Zeros in
+**     their place would look like a fault on the line. What the relay does meanwhile is the
+**     firmware's matter.
+**   - One window is one cycle, and one decision is of one window. A window that lies across the
+**     beginning of a fault is part load and part fault. How many decisions in a row to trust, and
+**     how long to hold a trip, is the firmware's matter.
+**
+** What the transform of one cycle sees, for a wave of peak 1:
+**   - Another frequency. At 0.98 of the nominal one (49 Hz for 50) the magnitude reads between
+**     0.988 and 1.010, at 0.95 between 0.969 and 1.023, by the phase at which the window begins;
+**     and the phasor turns by 7.2 or 18 degrees a cycle. All channels turn alike, so a current
+**     through the line still adds up to zero. Where the frequency wanders, sample at 16 times that
+**     of the network.
+**   - Direct current that decays, after a fault that began at any moment. The magnitude reads
+**     between 0.75 and 1.17 in a window that lies wholly in the fault, by the time constant and the
+**     phase. So for a cycle or two a loop can reach beyond its setting. A current through the line
+**     still adds up to zero.
+**   - Harmonics 2 to 14 are taken out. The 15th and the 17th count in full, like the wave itself:
+**     the analog filter has to remove them.
 */
 #ifndef GORSEPETAL_H
 #define GORSEPETAL_H
@@ -136,13 +429,30 @@
 extern "C" {
 #endif
 
-/* Lengths in bytes: a relay's state, a settings record, a decision, and a window of a line with so many ends. The longest window, that
-** of six ends, in numbers. */
+/* The version of this file and of the archive: text, and 10000 major + 100 minor + patch. */
+#define GORSEPETAL_VERSION "1.0.0"
+#define GORSEPETAL_VERSION_NUMBER 10000
+
+/* Lengths in bytes: a relay's state, a settings record and a decision. */
 #define GORSEPETAL_STATE_LENGTH 64
 #define GORSEPETAL_RECORD_LENGTH 32
 #define GORSEPETAL_DECISION_LENGTH 32
+
+/* A window: its frames, the numbers of a frame of a line with so many ends, the bytes of the whole.
+** The longest, that of six ends, in numbers. The place of a missing sample, divided by
+** GORSEPETAL_CHANNELS, is its frame; what is left over is its channel. */
+#define GORSEPETAL_FRAMES 16
+#define GORSEPETAL_CHANNELS(ends) (3 + 3 * (ends))
 #define GORSEPETAL_WINDOW_BYTES(ends) (2 * 16 * (3 + 3 * (ends)))
 #define GORSEPETAL_LONGEST_WINDOW_NUMBERS 336
+
+/* The number that stands for a missing sample, and the largest sample, also with a minus sign. */
+#define GORSEPETAL_MISSING (-32768)
+#define GORSEPETAL_LARGEST_SAMPLE 32767
+
+/* The offset of each record in the state. */
+#define GORSEPETAL_STATE_AT_IN_FORCE 0
+#define GORSEPETAL_STATE_AT_PENDING 32
 
 /* The offset of each field of a settings record. */
 #define GORSEPETAL_AT_ENDS 0
@@ -158,6 +468,34 @@ extern "C" {
 #define GORSEPETAL_AT_FORWARD_LIMIT 20
 #define GORSEPETAL_AT_REVERSE_LIMIT 22
 #define GORSEPETAL_AT_NEGATIVE_SEQUENCE_PICKUP 24
+
+/* The offset of each part of a decision. */
+#define GORSEPETAL_DECISION_AT_TRIP 0
+#define GORSEPETAL_DECISION_AT_PHASES 1
+#define GORSEPETAL_DECISION_AT_LOOPS 2
+#define GORSEPETAL_DECISION_AT_DIRECTION 3
+#define GORSEPETAL_DECISION_AT_RESTRAINT_A 8
+#define GORSEPETAL_DECISION_AT_RESTRAINT_B 12
+#define GORSEPETAL_DECISION_AT_RESTRAINT_C 16
+#define GORSEPETAL_DECISION_AT_DIFFERENTIAL_A 20
+#define GORSEPETAL_DECISION_AT_DIFFERENTIAL_B 24
+#define GORSEPETAL_DECISION_AT_DIFFERENTIAL_C 28
+
+/* The bits of a decision's phases and loops. */
+#define GORSEPETAL_PHASE_A 1
+#define GORSEPETAL_PHASE_B 2
+#define GORSEPETAL_PHASE_C 4
+#define GORSEPETAL_LOOP_AG 1
+#define GORSEPETAL_LOOP_BG 2
+#define GORSEPETAL_LOOP_CG 4
+#define GORSEPETAL_LOOP_AB 8
+#define GORSEPETAL_LOOP_BC 16
+#define GORSEPETAL_LOOP_CA 32
+
+/* A decision's direction. */
+#define GORSEPETAL_DIRECTION_NONE 0
+#define GORSEPETAL_DIRECTION_FORWARD 1
+#define GORSEPETAL_DIRECTION_REVERSE 2
 
 /* The numbers given back: the table above says when. */
 #define GORSEPETAL_DONE 0
@@ -187,28 +525,33 @@ extern "C" {
 **   6  at offset    the first field of the entry that is out of range
 **
 ** Done (0): the entry is pending, in place of any earlier pending record.
-** Refused with 5 or 6: nothing is pending any more; bytes 32 to 63 of the state are zero, whatever they held.
+** Refused with 5 or 6: nothing is pending any more; bytes 32 to 63 of the state are zero, whatever
+** they held.
 ** Either way bytes 0 to 31, the record in force, stay as they were.
 */
-uint64_t gorsepetal_propose(uint8_t *state, size_t state_len, const uint8_t *entry, size_t entry_len);
+uint64_t gorsepetal_propose(uint8_t *state, size_t state_len, const uint8_t *entry,
+                            size_t entry_len);
 
 /*
 ** Confirm the pending record by entering it again: the second of the two entries.
 **
 **   state   the relay, 64 bytes; changed as said below
-**   entry   the same 32 bytes as were proposed
+**   entry   the same 32 bytes as were proposed, entered anew
 **
 ** Checked in this order:
 **   17              state_len is not 64; nothing is changed
 **   5  at 0         entry_len is not 32
-**   7  at 0         nothing is pending, or what is stored as pending is a record that propose would refuse
+**   7  at 0         nothing is pending, or what is stored as pending is a record that propose would
+**                   refuse
 **   8  at offset    the entry differs from the pending record, first at this offset
 **
 ** Done (0): bytes 0 to 31 of the state are the entry, now in force, and bytes 32 to 63 are zero.
-** Refused with 5, 7 or 8: nothing is pending any more; bytes 32 to 63 are zero, whatever they held, and bytes 0 to 31 stay as they
-** were. So after a mismatch both entries have to be made again: a third entry cannot confirm.
+** Refused with 5, 7 or 8: nothing is pending any more; bytes 32 to 63 are zero, whatever they held,
+** and bytes 0 to 31 stay as they were. So after a mismatch both entries have to be made again: a
+** third entry cannot confirm.
 */
-uint64_t gorsepetal_confirm(uint8_t *state, size_t state_len, const uint8_t *entry, size_t entry_len);
+uint64_t gorsepetal_confirm(uint8_t *state, size_t state_len, const uint8_t *entry,
+                            size_t entry_len);
 
 /*
 ** Read back the settings in force.
@@ -218,13 +561,15 @@ uint64_t gorsepetal_confirm(uint8_t *state, size_t state_len, const uint8_t *ent
 **
 ** Checked in this order:
 **   17              state_len is not 64
-**   1  at 0         no settings are in force, or what is stored there is a record that propose would refuse
+**   1  at 0         no settings are in force, or what is stored there is a record that propose
+**                   would refuse
 **   3  at 0         out_len is below 32
 **
 ** Done (0): the first 32 bytes of out are the record in force; later ones stay as they were.
 ** Refused: nothing is written to out.
 */
-uint64_t gorsepetal_read_back(const uint8_t *state, size_t state_len, uint8_t *out, size_t out_len);
+uint64_t gorsepetal_read_back(const uint8_t *state, size_t state_len, uint8_t *out,
+                              size_t out_len);
 
 /*
 ** Decide on a window by the settings in force.
@@ -235,17 +580,20 @@ uint64_t gorsepetal_read_back(const uint8_t *state, size_t state_len, uint8_t *o
 **
 ** Checked in this order:
 **   17              state_len is not 64
-**   1  at 0         no settings are in force, or what is stored there is a record that propose would refuse
-**   2  at 0         samples_len is not GORSEPETAL_WINDOW_BYTES(N); so every odd length, and that of a window of other ends
+**   1  at 0         no settings are in force, or what is stored there is a record that propose
+**                   would refuse
+**   2  at 0         samples_len is not GORSEPETAL_WINDOW_BYTES(N); so every odd length, and that of
+**                   a window of other ends
 **   3  at 0         out_len is below 32
-**   4  at index     a sample is missing: the first, by its index among the numbers, which is half its offset in bytes
+**   4  at index     a sample is missing: the first, by its index among the numbers, which is half
+**                   its offset in bytes
 **
 ** Done (0): the first 32 bytes of out are the decision; later ones stay as they were.
-** Refused: nothing is written to out.
+** Refused: nothing is written to out, and there is no decision: out still holds the one before.
 ** A pending record has no part in it: the record in force decides until another is confirmed.
 */
-uint64_t gorsepetal_decide(const uint8_t *state, size_t state_len, const uint8_t *samples, size_t samples_len, uint8_t *out,
-                           size_t out_len);
+uint64_t gorsepetal_decide(const uint8_t *state, size_t state_len, const uint8_t *samples,
+                           size_t samples_len, uint8_t *out, size_t out_len);
 
 #ifdef __cplusplus
 }

@@ -1,4 +1,4 @@
-/* All that the archive needs beside itself: two functions that a C compiler may call for any code. sh tests/kit.sh alone links the two and
+/* All that the archive needs beside itself: two functions that a C compiler may call for any code. sh build.sh alone links the two and
 ** nothing else, so a third symbol is an error. */
 #include <stddef.h>
 

@@ -403,6 +403,59 @@ static void fault_in_front(void) {
   }
 }
 
+/* A fault of phase x to ground, or of the two others to each other, at half of the replica. The current of end 1 leaves at end 2; for a
+** fault behind the relay it flows the other way. */
+static void fault_on(uint8_t *window, int x, int to_ground, int sign) {
+  /* Of x and the two phases that follow it: the voltage and the current of end 1. */
+  static const int ground[3][4] = {{1000, 0, 0, -1000}, {-1000, -1732, 0, 0}, {-1000, 1732, 0, 0}};
+  static const int phases[3][4] = {{2000, 0, 0, 0}, {-1000, -500, -1000, 0}, {-1000, 500, 1000, 0}};
+  memset(window, 0, WINDOW);
+  for (int k = 0; k < 3; k++) {
+    const int *of = to_ground ? ground[k] : phases[k];
+    int at = (x + k) % 3;
+    phasor(window, at, of[0], of[1]);
+    phasor(window, 3 + at, sign * of[2], sign * of[3]);
+    phasor(window, 6 + at, -sign * of[2], -sign * of[3]);
+  }
+}
+
+/* Each part of a decision by the header's names: the six loops and both directions, and the three phases. */
+static void names_of_a_decision(void) {
+  static const int loops[2][3] = {{GORSEPETAL_LOOP_BC, GORSEPETAL_LOOP_CA, GORSEPETAL_LOOP_AB},
+                                  {GORSEPETAL_LOOP_AG, GORSEPETAL_LOOP_BG, GORSEPETAL_LOOP_CG}};
+  static const int operating[] = {GORSEPETAL_PHASE_A, GORSEPETAL_PHASE_B, GORSEPETAL_PHASE_C};
+  static const int restraint[] = {GORSEPETAL_DECISION_AT_RESTRAINT_A, GORSEPETAL_DECISION_AT_RESTRAINT_B, GORSEPETAL_DECISION_AT_RESTRAINT_C};
+  static const int differential[] = {GORSEPETAL_DECISION_AT_DIFFERENTIAL_A, GORSEPETAL_DECISION_AT_DIFFERENTIAL_B,
+                                     GORSEPETAL_DECISION_AT_DIFFERENTIAL_C};
+  uint8_t window[WINDOW];
+  const uint8_t *decided = out.all + GUARD;
+  lend_state(good, zeros);
+  for (int x = 0; x < 3; x++) {
+    for (int to_ground = 0; to_ground < 2; to_ground++)
+      for (int ahead = 0; ahead < 2; ahead++) {
+        fault_on(window, x, to_ground, ahead ? 1 : -1);
+        check("decide", decide(window, WINDOW, DECISION), GORSEPETAL_DONE);
+        check("direction", decided[GORSEPETAL_DECISION_AT_DIRECTION], ahead ? GORSEPETAL_DIRECTION_FORWARD : GORSEPETAL_DIRECTION_REVERSE);
+        check("loop", (decided[GORSEPETAL_DECISION_AT_LOOPS] & loops[to_ground][x]) != 0, (uint64_t)ahead);
+        check("trip", decided[GORSEPETAL_DECISION_AT_TRIP], (uint64_t)ahead);
+        check("phases", decided[GORSEPETAL_DECISION_AT_PHASES], 0);
+      }
+    memset(window, 0, WINDOW);
+    phasor(window, 3 + x, 1000, 0); /* at end 1 alone: 64000 sixty-fourths in U and in the differential */
+    check("decide", decide(window, WINDOW, DECISION), GORSEPETAL_DONE);
+    check("phase", decided[GORSEPETAL_DECISION_AT_PHASES], (uint64_t)operating[x]);
+    check("restraint", 256u * decided[restraint[x] + 2] + decided[restraint[x] + 3], 64000);
+    check("differential", 256u * decided[differential[x] + 2] + decided[differential[x] + 3], 64000);
+    check("direction", decided[GORSEPETAL_DECISION_AT_DIRECTION], GORSEPETAL_DIRECTION_NONE);
+  }
+  put(window, 0, GORSEPETAL_MISSING);
+  check("missing", decide(window, WINDOW, DECISION), refused(GORSEPETAL_MISSING_SAMPLE, 0));
+  put(window, 0, -GORSEPETAL_LARGEST_SAMPLE);
+  check("clipped", decide(window, WINDOW, DECISION), GORSEPETAL_DONE);
+  check_bytes("record in force", state.all + GUARD + GORSEPETAL_STATE_AT_IN_FORCE, good, RECORD);
+  check_bytes("pending record", state.all + GUARD + GORSEPETAL_STATE_AT_PENDING, zeros, RECORD);
+}
+
 static const struct {
   const char *name;
   void (*run)(void);
@@ -425,6 +478,7 @@ static const struct {
     {"room to decide", room_to_decide},
     {"paper mill", paper_mill},
     {"fault in front", fault_in_front},
+    {"names of a decision", names_of_a_decision},
 };
 
 int main(void) {

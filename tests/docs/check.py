@@ -1,26 +1,37 @@
 #!/usr/bin/env python3
 """Holds the header and the documents to what is in the tree.
 
-- include/gorsepetal.h declares the exported functions of crates/gorsepetal, and no others; its constants are the numbers of crates/answers,
-  the lengths of crates/gorsepetal and the offsets of crates/settings, and no others; its tables of numbers and of fields are those of
-  the source.
-- In README.md and docs/: each path in backticks is there (`*` stands for any name); in `name` in `path`, or `a`, `b` in `path`, each
-  name is declared in that file; the commands and the output that README.md shows are there.
-- docs/CLAIMS.md: it names each promise of the one statement in crates/claims, which has every statement there; the table of wrong
-  relays names each must-fail edit, and nothing else; the counts of assumed C functions are those that the checks of the crates gave,
-  which must all have been proved here.
+- include/gorsepetal.h declares the exported functions of crates/gorsepetal, and no others; its constants are those of the crates and of
+  their definitions, and no others; its version is the newest of docs/CHANGES.md. In its manual the tables of numbers and of fields and
+  the formulas of the rules have the source's figures, the limits those of the transform, the worked record follows from its own
+  formulas, and the worked decision from the independent program.
+- In README.md, docs/ and tests/independent/README.md each path in backticks is there (`*` stands for any name), and each link leads to a
+  file and a heading that are. In README.md and docs/, in `name` in `path`, or `a`, `b` in `path`, each name is declared in that file; below
+  a paragraph "Files:" each name is declared in one of its files, and each of these declares a name there. The commands that README.md shows
+  are there, and what it shows as printed is an example's. Code, laws and edits that a page quotes stand so in the crates.
+- docs/CLAIMS.md: its table names each promise of the one statement in crates/claims, below the file that proves it, and the one statement
+  has every statement of that crate; the counts of assumed C functions are those that the checks of the crates gave, which must all have
+  been proved here.
+- docs/WRONG-RELAYS.md: it names each must-fail edit below its crate, in the order of the layers, and no other.
+- docs/RULES.md: its rules are numbered, and each says by which request it stands and names definitions, which have its figures; its tables
+  and drawings say what the source says.
 - crates.txt names what each crate uses, and nothing more.
+- In tests/independent/ imports go one way, from what drives to the cases to the model, and its README.md has a line for each file.
 - No crate, and not all of them together, takes more lines of proof for a line of code than docs/ARCHITECTURE.md allows.
 """
 import sys
 
 sys.dont_write_bytecode = True
 import axioms  # noqa: E402
+import boundary  # noqa: E402
 import documents  # noqa: E402
 import header  # noqa: E402
 import layers  # noqa: E402
 import lines  # noqa: E402
+import manual  # noqa: E402
 import promises  # noqa: E402
+import rules  # noqa: E402
+import worked  # noqa: E402
 from tree import faults  # noqa: E402
 
 
@@ -29,14 +40,30 @@ def main():
         'functions': header.check_functions(),
         'constants': header.check_constants(),
         'macros': header.check_macros(),
-        'numbers in the manual': header.check_number_table(),
-        'fields in the manual': header.check_settings_table(),
+        'lines of the header': manual.check_columns(),
+        'numbers in the manual': manual.check_number_table(),
+        'fields in the manual': manual.check_settings_table(),
+        'formulas in the manual': manual.check_rules(),
+        'limits in the manual': manual.check_limits(),
+        'settings worked out in the manual': worked.check_example(),
+        'steps of the decision worked out in the manual': worked.check_decision(),
+        'sides of the test of the reach': worked.check_reach_test(),
+        'rules': rules.check_rules(),
+        'figures in the rules': rules.check_figures(),
+        'fields in the rules': rules.check_settings(),
+        'numbers in the rules': rules.check_answers(),
+        'lines of samples in the rules': rules.check_measuring(),
+        'bytes and loops in the rules': rules.check_decision(),
+        'lines of the program in the rules': rules.check_lines(),
         'paths': documents.check_paths(),
+        'links': documents.check_links(),
         'names': documents.check_names(),
         'promises': promises.check_promises(),
         'must-fail edits': documents.check_edits(),
+        'quotations': documents.check_quoted(),
         'commands': documents.check_commands(),
         'layers': layers.check_layers(),
+        'files of the independent program': boundary.check_boundary(),
         "crates' axioms": axioms.check_axioms(),
         "crates' lines": lines.check_lines(),
     }

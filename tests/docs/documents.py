@@ -1,38 +1,104 @@
-"""Holds README.md and docs/ to the tree: paths, names, must-fail edits, commands and the output that they show."""
+"""Holds README.md and docs/ to the tree: paths, links, names, must-fail edits, commands and the output that they show.
+
+A page says in one of two forms where its names are declared:
+- `name` in `path`, or `a`, `b` in `path`;
+- a paragraph that begins with "Files:" and lists files. Up to the next such paragraph or the next heading of level 1 or 2, each word in
+  backticks that looks like a name is declared in one of these files; or it is a must-fail edit, a crate, or a symbol that C sees.
+"""
 import re
+from collections import Counter
+from functools import cache
 from pathlib import Path
 
+import header
+import layers
 from tree import ROOT, blank, fault, faults, read
 
 README = Path('README.md')
-CLAIMS = Path('docs/CLAIMS.md')
-FOLDERS = ('crates', 'docs', 'tests', 'include', 'examples', 'bench', '.ci')
+WRONG_RELAYS = Path('docs/WRONG-RELAYS.md')
+OF_THE_COMPARISON = Path('tests/independent/README.md')
+FOLDERS = ('crates', 'docs', 'tests', 'tools', 'include', 'examples', 'bench', '.ci')
+ROOT_FILES = ('build.sh', 'crates.txt', 'README.md', 'LICENSE')
+NAME = re.compile(r"[^\W\d][\w'·-]*")
 
 
 def documents():
+    """The pages whose names are checked."""
     return [README] + sorted(p.relative_to(ROOT) for p in (ROOT / 'docs').rglob('*.md'))
 
 
+def pages():
+    """The pages whose paths and links are checked."""
+    return documents() + [OF_THE_COMPARISON]
+
+
+source = cache(read)
+
+
+@cache
 def document(path):
     """A document's text without its fenced blocks."""
-    return blank(r'^```.*?^```', read(path))
+    return blank(r'^```.*?^```', source(path))
 
 
 def spans(text):
     return list(re.finditer(r'`([^`\n]+)`', text))
 
 
+# Paths and links
+
+
+def is_path(page, word):
+    """Whether a word in backticks is meant as a path: of the tree, or beside the page."""
+    first = word.split('/')[0]
+    beside = page.parent != Path('.') and first.isidentifier() and (ROOT / page.parent / first).is_dir()
+    return word in ROOT_FILES or '/' in word and (first in FOLDERS or beside)
+
+
+def is_there(page, word):
+    return any(next(base.glob(word.rstrip('/')), None) for base in (ROOT, ROOT / page.parent))
+
+
 def check_paths():
+    """Each path in backticks is there, one within a command too."""
     count = 0
-    for path in documents():
-        text = document(path)
+    for page in pages():
+        text = document(page)
         for m in spans(text):
-            named = m.group(1)
-            if '/' in named and ' ' not in named and named.split('/')[0] in FOLDERS:
-                count += 1
-                if not any(ROOT.glob(named.rstrip('/'))):
-                    fault(path, text, m.start(), f'`{named}` is not there')
+            for word in m.group(1).split():
+                if is_path(page, word):
+                    count += 1
+                    if not is_there(page, word):
+                        fault(page, text, m.start(), f'`{word}` is not there')
     return count
+
+
+def anchors(page):
+    """What a link may name behind the # of a page: its headings, as they are shown on a page of the web."""
+    seen = Counter()
+    for title in re.findall(r'^#+ +(.+?) *$', document(page), flags=re.MULTILINE):
+        slug = re.sub(r'[^\w -]', '', title.lower()).replace(' ', '-')
+        yield f'{slug}-{seen[slug]}' if seen[slug] else slug
+        seen[slug] += 1
+
+
+def check_links():
+    """Each link leads to a file that is there, and to a heading that it has."""
+    count = 0
+    for page in pages():
+        text = document(page)
+        for m in re.finditer(r'\]\(([^)\s]+)\)', text):
+            count += 1
+            target, _, heading = m.group(1).partition('#')
+            file = page.parent / target if target else page
+            if not (ROOT / file).exists():
+                fault(page, text, m.start(), f'the link to {target} leads nowhere')
+            elif heading and heading not in anchors(file):
+                fault(page, text, m.start(), f'{file} has no heading #{heading}')
+    return count
+
+
+# Names
 
 
 def claimed(text):
@@ -40,7 +106,7 @@ def claimed(text):
     found, paths = spans(text), set()
     between = [' '.join(text[a.end():b.start()].split()) for a, b in zip(found, found[1:])]
     for i, word in enumerate(between):
-        if word == 'in':
+        if word == 'in' and not NAME.fullmatch(found[i + 1].group(1)):
             paths.add(i + 1)
             first = i
             while first > 0 and between[first - 1] in (',', 'and', ', and') and first - 1 not in paths:
@@ -48,55 +114,137 @@ def claimed(text):
             yield found[first:i + 1], found[i + 1]
 
 
-def declares(path, text, name):
-    word = re.escape(name)
+def listed(text):
+    """Each "Files:" paragraph: the matches of its paths, and of the names in its range."""
+    ends = [m.start() for m in re.finditer(r'^(?:Files:|##? )', text, flags=re.MULTILINE)] + [len(text)]
+    for paragraph in re.finditer(r'^Files:.*?(?=\n[ \t]*\n|\Z)', text, flags=re.DOTALL | re.MULTILINE):
+        end = next(at for at in ends if at > paragraph.start())
+        yield (spans_within(text, paragraph.start(), paragraph.end()),
+               [m for m in spans_within(text, paragraph.end(), end) if NAME.fullmatch(m.group(1))])
+
+
+def spans_within(text, start, end):
+    return [m for m in spans(text) if start <= m.start() < end]
+
+
+@cache
+def declares(path, name):
+    text, word = source(path), re.escape(name)
     if path.suffix == '.rt':
-        return re.search(rf'\b(fn|const|enum|struct)\s+{word}(?!\w)', text)
+        return bool(re.search(rf'\b(fn|const|enum|struct)\s+{word}(?!\w)', text))
     if path.suffix == '.antt':
         words = r'(?:(?:pub|abbrev|unfoldable|record|data)\s+)+'
-        return re.search(rf'^\s*(?:{words}{word}(?=[\s({{]|$)|{word}\s+:(?=\s|$))', text, re.MULTILINE)
-    return name in text
+        return bool(re.search(rf'^\s*(?:{words}{word}(?=[\s({{]|$)|{word}\s+:(?=\s|$))', text, re.MULTILINE))
+    if path.suffix == '.py':
+        return bool(re.search(rf'^\s*(?:def|class)\s+{word}\b|^{word}\b.*=', text, re.MULTILINE))
+    return bool(re.search(rf'(?<![\w-]){word}(?![\w-])', text))
+
+
+@cache
+def edits():
+    """Each must-fail edit's name, with its file."""
+    return {edit.stem: edit.relative_to(ROOT) for edit in sorted((ROOT / 'crates').glob('*/must-fail/*.edit'))}
+
+
+@cache
+def known():
+    """The names that stand in no file of a list: of edits, of crates, and what C sees."""
+    symbols = re.findall(r'[A-Za-z_]\w*', header.header())
+    return {*edits(), *layers.direct(), *symbols, 'memcpy', 'memset'}
+
+
+def check_list(page, text, paths, names):
+    """Each name in a list's range is declared in one of its files, and each file has one of them."""
+    files = {m: Path(m.group(1)) for m in paths if (ROOT / m.group(1)).is_file()}
+    for m in paths:
+        if m not in files:
+            fault(page, text, m.start(), f'`{m.group(1)}` is no file')
+        elif not any(declares(files[m], name.group(1)) for name in names):
+            fault(page, text, m.start(), f'`{m.group(1)}` is listed, but no name below is declared in it')
+    for m in names:
+        if m.group(1) not in known() and not any(declares(file, m.group(1)) for file in files.values()):
+            fault(page, text, m.start(), f'`{m.group(1)}` is declared in none of the files that are listed above it')
+    return len(names)
 
 
 def check_names():
     count = 0
     for page in documents():
-        text = document(page)
+        text, beside = document(page), set()
         for names, path in claimed(text):
+            beside |= {name.start() for name in names}
             file = Path(path.group(1))
             if not (ROOT / file).is_file():
                 fault(page, text, path.start(), f'`{file}` is no file')
                 continue
             for name in names:
                 count += 1
-                if not declares(file, read(file), name.group(1)):
+                if not declares(file, name.group(1)):
                     fault(page, text, name.start(), f'`{name.group(1)}` is not declared in `{file}`')
+        for paths, names in listed(text):
+            count += check_list(page, text, paths, [m for m in names if m.start() not in beside])
     return count
 
 
+# Must-fail edits
+
+
 def check_edits():
-    """Each must-fail edit stands in the table of wrong relays, and each name in the first column of that table is an edit."""
-    text = document(CLAIMS)
-    section = re.search(r'^## Wrong relays.*?(?=^## |\Z)', text, flags=re.DOTALL | re.MULTILINE)
-    cells = re.finditer(r'^\|([^|]*)\|', section.group(), flags=re.MULTILINE) if section else []
-    named = {m.group(1): section.start() + cell.start() for cell in cells for m in spans(cell.group(1))}
-    edits = {edit.stem: edit.relative_to(ROOT) for edit in sorted((ROOT / 'crates').glob('*/must-fail/*.edit'))}
-    faults.extend(f'{CLAIMS}: the table of wrong relays does not name `{name}`, {edits[name]}' for name in edits if name not in named)
-    for name in set(named) - set(edits):
-        fault(CLAIMS, text, named[name], f'`{name}` is no must-fail edit')
-    return len(edits)
+    """Each must-fail edit stands on the page of wrong relays, under its crate; each name in the first column of a table there is an edit;
+    and the crates stand in the order of the layers."""
+    text, crate, named, order = document(WRONG_RELAYS), '', {}, []
+    for m in re.finditer(r'^### `(\w+)`|^\|([^|\n]*)\|', text, flags=re.MULTILINE):
+        if m.group(1):
+            crate = m.group(1)
+            order.append(crate)
+        else:
+            named |= {span.group(1): (m.start(), crate) for span in spans(m.group(2))}
+    faults.extend(f'{WRONG_RELAYS}: no table names the edit `{name}`, {file}' for name, file in edits().items() if name not in named)
+    for name, (at, crate) in named.items():
+        if name not in edits():
+            fault(WRONG_RELAYS, text, at, f'`{name}` is no must-fail edit')
+        elif edits()[name].parts[1] != crate:
+            fault(WRONG_RELAYS, text, at, f'`{name}` is an edit of {edits()[name].parts[1]}')
+    if order != [crate for crate in layers.direct() if any(file.parts[1] == crate for file in edits().values())]:
+        faults.append(f'{WRONG_RELAYS}: its crates are not those that have edits, in the order of {layers.CRATES}')
+    if f'{len(edits())} edits' not in text:
+        faults.append(f'{WRONG_RELAYS}: it does not say that there are {len(edits())} edits')
+    return len(edits())
+
+
+# Quotations and commands
 
 
 def blocks(path, language):
-    return re.findall(rf'^```{language}\n(.*?)^```', read(path), flags=re.DOTALL | re.MULTILINE)
+    return re.findall(rf'^```{language}\n(.*?)^```', source(path), flags=re.DOTALL | re.MULTILINE)
+
+
+QUOTED = {'rust': '*/src/*.rt', 'antt': '*/proofs/**/*.antt', 'edit': '*/must-fail/*.edit'}
+
+
+def check_quoted():
+    """Each block of a page that is marked as code, as a law or as an edit stands so in some file of its kind, however its lines are
+    broken; a line with two dots in it is left out."""
+    count = 0
+    for language, pattern in QUOTED.items():
+        files = [' '.join(path.read_text(encoding='utf-8').split()) for path in (ROOT / 'crates').glob(pattern)]
+        for page in documents():
+            for block in blocks(page, language):
+                count += 1
+                parts = [' '.join(part.split()) for part in re.split(r'^.*\.\..*$', block, flags=re.MULTILINE)]
+                if not any(all(part in text for part in parts) for text in files):
+                    faults.append(f'{page}: no file crates/{pattern} has the block that begins with {block.splitlines()[0].strip()}')
+    return count
 
 
 def check_commands():
-    """The commands that README shows name files that are there, and the output that it shows is the example's."""
+    """The commands that README shows name files that are there, and what it shows as printed is an example's output or a part of one."""
     commands = [line.split('#')[0].split() for block in blocks(README, 'sh') for line in block.splitlines() if line.strip()]
     for words in commands:
-        if not (ROOT / words[-1]).is_file():
-            faults.append(f'{README}: `{" ".join(words)}`: {words[-1]} is not there')
-    if read(Path('examples/run.expected')) not in blocks(README, 'text'):
-        faults.append(f'{README}: no block shows what examples/run.expected has')
+        paths = [word for word in words if is_path(README, word)] or words[-1:]
+        faults.extend(f'{README}: `{" ".join(words)}`: {word} is not there' for word in paths if not (ROOT / word).is_file())
+    printed = ['\n' + path.read_text(encoding='utf-8') for path in (ROOT / 'examples').glob('*.expected')]
+    shown = blocks(README, 'text')
+    if not shown or not all(any('\n' + block in output for output in printed) for block in shown):
+        faults.append(f'{README}: a block shows what no file examples/*.expected has, or there is none')
     return len(commands)

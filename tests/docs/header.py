@@ -1,12 +1,11 @@
-"""Holds include/gorsepetal.h to the source: its prototypes, its constants, and the tables of its manual."""
+"""Holds what a compiler reads of include/gorsepetal.h to the source: its prototypes, its constants and its macros."""
 import re
-from itertools import groupby
 from pathlib import Path
 
 from tree import blank, fault, faults, read, sources
 
 HEADER = Path('include/gorsepetal.h')
-TABLE = Path('crates/settings/specs/Table.antt')
+CHANGES = Path('docs/CHANGES.md')
 C_TYPES = {'usize': 'size_t', **{f'{kind}{bits}': f'{"u" * (kind == "u")}int{bits}_t' for kind in 'ui' for bits in (8, 16, 32, 64)}}
 
 
@@ -66,38 +65,98 @@ def check_functions():
 
 def number(text):
     """The value of a whole number as C or Rattle writes it; None for anything else."""
-    m = re.fullmatch(r'(-?(?:0[xX][0-9a-fA-F]+|0|[1-9][0-9]*))(?:[uUlL]+|[ui](?:8|16|32|64|size))?', text.strip().replace('_', ''))
+    bare = re.sub(r'^\((.*)\)$', r'\1', text.strip()).replace('_', '')
+    m = re.fullmatch(r'(-?(?:0[xX][0-9a-fA-F]+|0|[1-9][0-9]*))(?:[uUlL]+|[ui](?:8|16|32|64|size))?', bare)
     return int(m.group(1), 0) if m else None
 
 
-# Whose public constants the header has, each with what it puts before their names: the numbers given back, the lengths that the crate of
-# the calls owns, and the offsets of the settings' fields.
-OWNERS = (('answers', 'lib.rt', ''), ('gorsepetal', 'lib.rt', ''), ('settings', 'at.rt', 'AT_'))
-
-
 def constants(crate, file='lib.rt'):
-    """The public constants of a crate's file, by name. A value is a number, or another crate's constant, `entry::RECORD_LENGTH`."""
+    """The constants of a crate's file, by name. A value is a sum of numbers, of constants before it and of other crates' constants, as in
+    `entry::RECORD_LENGTH`."""
     found = {}
     text = blank(r'//[^\n]*', read(Path('crates') / crate / 'src' / file))
-    for m in re.finditer(r'\bpub\s+const\s+(\w+)\s*:\s*\w+\s*=\s*([^;]+);', text):
-        other = re.fullmatch(r'(\w+)::(\w+)', m.group(2).strip())
-        found[m.group(1)] = constants(other.group(1)).get(other.group(2)) if other else number(m.group(2))
+    for m in re.finditer(r'\bconst\s+(\w+)\s*:\s*\w+\s*=\s*([^;]+);', text):
+        values = [constant(word.strip(), found) for word in m.group(2).split('+')]
+        found[m.group(1)] = None if None in values else sum(values)
     return found
 
 
-def public_constants():
-    return {prefix + name: value for crate, file, prefix in OWNERS for name, value in constants(crate, file).items()}
+def constant(word, known):
+    other = re.fullmatch(r'(\w+)::(\w+)', word)
+    return constants(other.group(1)).get(other.group(2)) if other else known.get(word, number(word))
+
+
+def public(crate, file='lib.rt'):
+    text = read(Path('crates') / crate / 'src' / file)
+    return {name: value for name, value in constants(crate, file).items() if re.search(rf'\bpub const {name}\b', text)}
+
+
+def definition(path, name):
+    """The text of a definition in specs/, its equations in one line."""
+    m = re.search(rf'^{name} [^:\n]*=((?:.*\n)(?:[ ]+.*\n)*)', blank(r'--[^\n]*', read(Path(path))), flags=re.MULTILINE)
+    return ' '.join(m.group(1).split()) if m else ''
+
+
+def weights(path, name):
+    """The bit of each member in a definition made by `bits (.. (x .ag) ∷ .. ∷ [])`, by the member's name."""
+    return {member.upper(): 2 ** i for i, member in enumerate(re.findall(r'\(\w+ \.(\w+)\)', definition(path, name)))}
+
+
+def directions():
+    found = re.findall(r'^directionNumber (\w+) = (\d+)$', read(Path('crates/distance/specs/Direction.antt')), flags=re.MULTILINE)
+    return {f'DIRECTION_{name.upper()}': int(value) for name, value in found}
+
+
+# What stands at the head of each part of a decision, by the definition of its bytes.
+PARTS = {'trip (f .operating)': 'TRIP', 'f .operating': 'PHASES', 'f .asserting': 'LOOPS', 'directionNumber (f .direction)': 'DIRECTION'}
+
+
+def decision_offsets():
+    """The offset of each part, by `decisionBytes`: a `word` has four bytes, all else one."""
+    at, found = 0, {}
+    for part in re.split(r' (?:∷|\+\+) ', definition('crates/decision/specs/Decision.antt', 'decisionBytes')):
+        word = re.fullmatch(r'word \((magnitude \()?f \.comparisons \.(\w)( \.restraint)?\)+', part)
+        name = next((name for head, name in PARTS.items() if part.startswith(head)), None)
+        if word:
+            name = f'{"DIFFERENTIAL" if word.group(1) else "RESTRAINT"}_{word.group(2).upper()}'
+        if name:
+            found[f'DECISION_AT_{name}'] = at
+        elif part != '0':
+            faults.append(f'decisionBytes has a part that this check does not know: {part}')
+        at += 4 if word else 1
+    return found
+
+
+def version():
+    """The newest version of docs/CHANGES.md, as text and as a number."""
+    m = re.search(r'^## (\d+)\.(\d+)\.(\d+)\b', read(CHANGES), flags=re.MULTILINE)
+    major, minor, patch = (int(part) for part in m.groups()) if m else (0, 0, 0)
+    return {'VERSION': f'"{major}.{minor}.{patch}"', 'VERSION_NUMBER': 10000 * major + 100 * minor + patch}
+
+
+def wanted_constants():
+    """Each constant that the header should have: public ones of the source, and what the definitions say."""
+    samples, relay = constants('samples'), constants('gorsepetal')
+    phases = weights('crates/differential/specs/Differential.antt', 'operatingBits')
+    loops = weights('crates/distance/specs/Mho.antt', 'loopBits')
+    return {
+        **version(), **public('answers'), **public('gorsepetal'),
+        **{f'AT_{name}': value for name, value in public('settings', 'at.rt').items()},
+        'FRAMES': samples['FRAMES'], 'MISSING': samples['MISSING'], 'LARGEST_SAMPLE': -samples['MISSING'] - 1,
+        'STATE_AT_IN_FORCE': relay['MAIN'], 'STATE_AT_PENDING': relay['PENDING'], **decision_offsets(),
+        **{f'PHASE_{name}': bit for name, bit in phases.items()}, **{f'LOOP_{name}': bit for name, bit in loops.items()}, **directions(),
+    }
 
 
 def check_constants():
-    wanted, text, seen = public_constants(), header(), set()
+    wanted, text, seen = wanted_constants(), header(), set()
     for m in re.finditer(r'^[ \t]*#[ \t]*define[ \t]+GORSEPETAL_(\w+)[ \t]+(\S[^\n]*)', text, flags=re.MULTILINE):
-        name, value = m.group(1), number(m.group(2))
+        name, written = m.group(1), m.group(2).strip()
         seen.add(name)
         if name not in wanted:
-            fault(HEADER, text, m.start(), f'GORSEPETAL_{name}: the crates have no public constant {name}')
-        elif value != wanted[name]:
-            fault(HEADER, text, m.start(), f'GORSEPETAL_{name} is {m.group(2).strip()}; the source has {wanted[name]}')
+            fault(HEADER, text, m.start(), f'GORSEPETAL_{name}: neither the crates nor docs/CHANGES.md have it')
+        elif wanted[name] not in (written, number(written)):
+            fault(HEADER, text, m.start(), f'GORSEPETAL_{name} is {written}; it should be {wanted[name]}')
     faults.extend(f'{HEADER}: #define GORSEPETAL_{name} {wanted[name]} is missing' for name in sorted(set(wanted) - seen))
     return len(wanted)
 
@@ -110,68 +169,17 @@ def macro(name, argument, text):
 
 
 def check_macros():
-    """The macros that reckon, at values that tell: a window's bytes for each number of ends, and what a call gives back taken apart."""
+    """The macros that reckon, at values that tell: a frame's numbers and a window's bytes for each number of ends, and what a call gives back
+    taken apart."""
     text, source = header(), ' '.join(text for _, text in sources('answers', 'gorsepetal', 'samples'))
     weight = number(re.search(r'\bconst PLACE_WEIGHT: u64 = (\d+);', source).group(1))
     frames = constants('samples')['FRAMES']
     wanted = {('WINDOW_BYTES', ends): 2 * frames * (3 + 3 * ends) for ends in range(2, 7)}
+    wanted |= {('CHANNELS', ends): 3 + 3 * ends for ends in range(2, 7)}
     wanted |= {('NUMBER', given): given % weight for given in (0, 17, 335 * weight + 4)}
     wanted |= {('PLACE', given): given // weight for given in (0, 17, 335 * weight + 4)}
-    if wanted['WINDOW_BYTES', 6] != 2 * public_constants()['LONGEST_WINDOW_NUMBERS']:
+    if wanted['WINDOW_BYTES', 6] != 2 * public('gorsepetal')['LONGEST_WINDOW_NUMBERS']:
         faults.append('crates/samples: the longest window is not that of six ends')
     faults.extend(f'{HEADER}: GORSEPETAL_{name}({argument}) is {macro(name, argument, text)}; the source has {value}'
                   for (name, argument), value in wanted.items() if macro(name, argument, text) != value)
     return len({name for name, _ in wanted})
-
-
-# The manual's tables
-
-
-def check_number_table():
-    """The table of numbers is that of crates/answers; each call's list of checks has the numbers that the table says it gives, in
-    document 01's order."""
-    text, wanted = read(HEADER), constants('answers')
-    rows = list(re.finditer(r'^\*\*   (\d+)\s+([A-Z_]+)\s.*\s{2,}(\S.*)$', text, flags=re.MULTILINE))
-    found = {m.group(2): int(m.group(1)) for m in rows}
-    if found != wanted:
-        fault(HEADER, text, rows[0].start() if rows else 0, f'the table of numbers has {found}; crates/answers has {wanted}')
-    for m in re.finditer(r'/\*((?:(?!\*/).)*)\*/\s*uint64_t gorsepetal_(\w+)\(', text, flags=re.DOTALL):
-        listed = [int(n) for n in re.findall(r'^\*\*   (\d+)\s+(?:at|state_len)', m.group(1), flags=re.MULTILINE)]
-        given = {int(row.group(1)) for row in rows if m.group(2) in row.group(3).split(', ') or row.group(3) == 'every call'} - {0}
-        if listed != [17, *sorted(given - {17})]:  # 17 stands before all others; the others go up
-            fault(HEADER, text, m.start(), f'{m.group(2)} lists the checks {listed}; the table of numbers gives it {sorted(given)}')
-    return len(rows)
-
-
-def settings_rules():
-    """The rules of the table of crates/settings, in its order, with numbers for the names of limits."""
-    text = blank(r'--[^\n]*', read(TABLE))
-    defined = dict(re.findall(r'^(\w+) =\s*(.+)$', text, flags=re.MULTILINE))
-    limits = {name: value for name, value in defined.items() if re.fullmatch(r'\d+', value)}
-
-    def rows(part):
-        for piece in re.split(r'\s*(?:∷|\+\+)\s*', part):
-            if piece in defined:
-                yield from rows(defined[piece])
-            elif piece != '[]':
-                piece = re.sub(r'\b(' + '|'.join(limits) + r')\b', lambda m: limits[m[1]], piece)
-                yield re.sub(r'\((negated|pos) (\d+)\)', lambda m: '-' * (m[1] == 'negated') + m[2], piece)
-    return list(rows('settingsTable'))
-
-
-def check_settings_table():
-    """The table of fields has the rows of the table of crates/settings; bytes in a row with one range are one row."""
-    text, all_rules = read(HEADER), settings_rules()
-    rules = [(m[1], *map(int, m[2].split())) for rule in all_rules if (m := re.fullmatch(r'(Unsigned|Signed|Byte)((?: -?\d+){3})', rule))]
-    wanted = [next(group)[1:] for _, group in groupby(rules, key=lambda r: r if r[0] != 'Byte' else (r[0], *r[2:]))]
-    rows = list(re.finditer(r'^\*\*   (\d+)\s+\S.*?\s(-?\d+)\s+(-?\d+)$', text, flags=re.MULTILINE))
-    found = [tuple(map(int, m.groups())) for m in rows]
-    if found != wanted:
-        fault(HEADER, text, rows[0].start() if rows else 0, f'the table of fields has {found}; crates/settings has {wanted}')
-    squares = [m for rule in all_rules if (m := re.fullmatch(r'Squares .* (\d+) (\d+)', rule))]
-    for m in squares:
-        if not re.search(rf'\b{m[1]}\b.*\b{m[2]}\b', text):
-            fault(HEADER, text, 0, f'the sum of squares, {m[1]} to {m[2]}, is not in the manual')
-    if len(rules) + len(squares) + sum(rule.startswith('Below ') for rule in all_rules) != len(all_rules):
-        faults.append(f'{TABLE}: a rule of a kind that this check does not know is in {all_rules}')
-    return len(rows)

@@ -3,6 +3,7 @@ import re
 from pathlib import Path
 
 import header
+from documents import declares
 from tree import ROOT, faults, read
 
 STATEMENT = Path('crates/claims/specs/Reader.antt')
@@ -17,10 +18,14 @@ def fields():
 
 
 def named(page):
-    """The promises that the page's table of them names."""
+    """Each promise that the page's table of them names, with the files that the heading row above it gives."""
     section = re.search(r'^## The one statement$.*?(?=^## )', page, flags=re.DOTALL | re.MULTILINE)
-    rows = re.findall(r'^\|[^|]*\|([^|]*)\|$', section.group(), flags=re.MULTILINE) if section else []
-    return {name for row in rows for name in re.findall(r'`([^`]+)`', row)}
+    found, files = {}, []
+    for first, second in re.findall(r'^\|([^|]*)\|([^|]*)\|$', section.group() if section else '', flags=re.MULTILINE):
+        if first.startswith(' **'):
+            files = [Path(path) for path in re.findall(r'`([^`]+)`', second)]
+        found |= {name: files for name in re.findall(r'`([^`]+)`', first)}
+    return found
 
 
 # What is stated in crates/claims as a part of promises, and is none itself.
@@ -37,13 +42,18 @@ def unused(promised):
 
 
 def check_promises():
-    """The page names each promise and no other, the witness gives each, each exported function has its contract and its one result among
-    them, and no statement of crates/claims is left out."""
+    """The page names each promise and no other, below the file that proves it; the witness gives each; each exported function has its
+    contract and its one result among them; and no statement of crates/claims is left out."""
     page, witness, promised = read(CLAIMS), read(WITNESS), fields()
     if len(promised) != len(re.findall(r'^  pub ', read(STATEMENT), flags=re.MULTILINE)):
         faults.append(f'{STATEMENT}: a promise is not on one line, and this check does not see it')
-    faults.extend(f'{CLAIMS}: its table does not name the promise `{name}` of {STATEMENT}' for name in promised if name not in named(page))
-    faults.extend(f'{CLAIMS}: its table names `{name}`, which is no promise of {STATEMENT}' for name in sorted(named(page) - set(promised)))
+    table = named(page)
+    faults.extend(f'{CLAIMS}: its table does not name the promise `{name}` of {STATEMENT}' for name in promised if name not in table)
+    faults.extend(f'{CLAIMS}: its table names `{name}`, which is no promise of {STATEMENT}' for name in table if name not in promised)
+    faults.extend(f'{CLAIMS}: `{name}` is declared in no file that stands above it in the table' for name, files in table.items()
+                  if not any(declares(file, name) for file in files))
+    faults.extend(f'{CLAIMS}: `{file}` stands in the table, but declares no promise below it' for files in table.values() for file in files
+                  if not any(declares(file, name) for name, above in table.items() if above == files))
     faults.extend(f'{WITNESS}: no `{name}`' for name in promised if not re.search(rf'^  {re.escape(name)} = ', witness, flags=re.MULTILINE))
     for function in header.exported():
         call = function.removeprefix('gorsepetal_')

@@ -1,0 +1,167 @@
+"""Holds the manual, which is the first comment of include/gorsepetal.h: its tables and the figures of its rules to the source, and the
+figures of its limits to the transform."""
+import cmath
+import math
+import re
+from itertools import groupby
+from pathlib import Path
+
+from header import HEADER, constants
+from tree import blank, fault, faults, read
+
+TABLE = Path('crates/settings/specs/Table.antt')
+SEQUENCE = Path('crates/distance/specs/Sequence.antt')
+COLUMNS = 100
+
+
+def section(title):
+    """A section of the manual, from its title to the next."""
+    m = re.search(rf'^\*\* {re.escape(title)}\n\*\*\n(.*?)(?=^\*\* [A-Z][A-Z\', ]+\n\*\*\n|^\*/)', read(HEADER), flags=re.DOTALL | re.MULTILINE)
+    if not m:
+        faults.append(f'{HEADER}: the manual has no section {title}')
+    return m.group(1) if m else ''
+
+
+def plain(title):
+    """A section's words, a space between any two."""
+    return ' '.join(re.sub(r'^\*\*', '', section(title), flags=re.MULTILINE).split())
+
+
+def check_columns():
+    lines = read(HEADER).splitlines()
+    faults.extend(f'{HEADER}:{n}: {len(line)} columns' for n, line in enumerate(lines, 1) if len(line) > COLUMNS)
+    return len(lines)
+
+
+# Tables
+
+
+def check_number_table():
+    """The table of numbers is that of crates/answers; each call's list of checks has the numbers that the table says it gives, in
+    document 01's order."""
+    text, wanted = read(HEADER), {name: value for name, value in constants('answers').items() if name != 'PLACE_WEIGHT'}
+    rows = list(re.finditer(r'^\*\*   (\d+)\s+([A-Z_]+)\s.*\s{2,}(\S.*)$', section('WHAT COMES BACK'), flags=re.MULTILINE))
+    found = {m.group(2): int(m.group(1)) for m in rows}
+    if found != wanted:
+        faults.append(f'{HEADER}: the table of numbers has {found}; crates/answers has {wanted}')
+    for m in re.finditer(r'/\*((?:(?!\*/).)*)\*/\s*uint64_t gorsepetal_(\w+)\(', text, flags=re.DOTALL):
+        listed = [int(n) for n in re.findall(r'^\*\*   (\d+)\s+(?:at|state_len)', m.group(1), flags=re.MULTILINE)]
+        given = {int(row.group(1)) for row in rows if m.group(2) in row.group(3).split(', ') or row.group(3) == 'every call'} - {0}
+        if listed != [17, *sorted(given - {17})]:  # 17 stands before all others; the others go up
+            fault(HEADER, text, m.start(), f'{m.group(2)} lists the checks {listed}; the table of numbers gives it {sorted(given)}')
+    return len(rows)
+
+
+def settings_rules():
+    """The rules of the table of crates/settings, in its order, with numbers for the names of limits."""
+    text = blank(r'--[^\n]*', read(TABLE))
+    defined = dict(re.findall(r'^(\w+) =\s*(.+)$', text, flags=re.MULTILINE))
+    limits = {name: value for name, value in defined.items() if re.fullmatch(r'\d+', value)}
+
+    def rows(part):
+        for piece in re.split(r'\s*(?:∷|\+\+)\s*', part):
+            if piece in defined:
+                yield from rows(defined[piece])
+            elif piece != '[]':
+                piece = re.sub(r'\b(' + '|'.join(limits) + r')\b', lambda m: limits[m[1]], piece)
+                yield re.sub(r'\((negated|pos) (\d+)\)', lambda m: '-' * (m[1] == 'negated') + m[2], piece)
+    return list(rows('settingsTable'))
+
+
+def field_rows():
+    """The offset and the limits of each field, by the table of crates/settings; bytes in a row with one range are one row."""
+    rules = [(m[1], *map(int, m[2].split())) for rule in settings_rules()
+             if (m := re.fullmatch(r'(Unsigned|Signed|Byte)((?: -?\d+){3})', rule))]
+    return [next(group)[1:] for _, group in groupby(rules, key=lambda r: r if r[0] != 'Byte' else (r[0], *r[2:]))]
+
+
+def check_settings_table():
+    """The table of fields has the names of crates/settings, and its offsets and limits; the rule of the squares is beside it."""
+    text, names = section('SETTINGS RECORD'), {value: name for name, value in constants('settings', 'at.rt').items()}
+    rows = re.findall(r'^\*\*   (\d+)\s+(\S+)\s.*?\s(-?\d+)\s+(-?\d+)$', text, flags=re.MULTILINE)
+    found = [(int(at), name, int(low), int(high)) for at, name, low, high in rows]
+    wanted = [(at, names.get(at, '-'), low, high) for at, low, high in field_rows()]
+    if found != wanted:
+        faults.append(f'{HEADER}: the table of fields has {found}; crates/settings has {wanted}')
+    for rule in settings_rules():
+        squares = re.fullmatch(r'Squares .* (\d+) (\d+)', rule)
+        if squares and not re.search(rf'\b{squares[1]}\b[^.;]*\b{squares[2]}\b', text):
+            faults.append(f'{HEADER}: the sum of squares, {squares[1]} to {squares[2]}, is not in the manual')
+        if not squares and not re.match(r'(Unsigned|Signed|Byte|Below) ', rule):
+            faults.append(f'{TABLE}: {rule} is a rule of a kind that this check does not know')
+    return len(rows)
+
+
+# Rules
+
+
+def cosines():
+    """The table of crates/phasors."""
+    table = re.search(r'const COSINES: \[i16; 16\] = \[(.*?)\];', blank(r'//[^\n]*', read(Path('crates/phasors/src/lib.rt'))), flags=re.DOTALL)
+    return [int(word) for word in table.group(1).replace(',', ' ').split()] if table else []
+
+
+def check_rules():
+    """The figures that the rules have are those of the source: each formula stands in the manual with the source's constants."""
+    text = plain('RULES')
+    mho, scale = constants('distance', 'mho.rt'), constants('distance', 'sequence.rt')['SCALE']
+    differential, phasors = constants('differential'), constants('phasors')
+    turn = re.findall(r'pos (\d+)', re.search(r'^a = .*$', read(SEQUENCE), flags=re.MULTILINE).group())
+    wanted = [
+        'C[n] ' + ' '.join(map(str, cosines())) + ' S[n]',
+        f'C[(n + {phasors["SHIFT"]}) mod {len(cosines())}]', f'minus the sum of x[n] S[n]) by {phasors["DIVISOR"]}',
+        f'a = (-{turn[0]}, {turn[1]}) and a2 = (-{turn[0]}, -{turn[1]})',
+        f'3V1 ({scale} Va + a Vb + a2 Vc) by {scale}', f'3V2 ({scale} Va + a2 Vb + a Vc) by {scale}', f'3I2 ({scale} Ia + a2 Ib + a Ic) by {scale}',
+        f'aP = a P by {scale} and a2P = a2 P by {scale} are rounded first', f'E = k (Ia + Ib + Ic) by {mho["K_SCALE"]}',
+        f'{mho["REACH_SCALE"]} n <= r m', f'at least {differential["SIXTY_FOURTHS_SQUARED"]} |I|^2',
+        f's >= pickup^2 and {differential["SLOPE_SCALE"]} s > (K U)^2',
+    ]
+    faults.extend(f'{HEADER}: RULES does not have "{formula}"' for formula in wanted if formula not in text)
+    return len(wanted)
+
+
+# Limits
+
+
+def transform(samples):
+    """What the sums of a channel come to, before they are rounded, in counts."""
+    table = cosines()
+    return sum(x * complex(table[n], -table[(n + 12) % 16]) for n, x in enumerate(samples)) / 131072
+
+
+def off_nominal(ratio):
+    """The smallest and the largest magnitude of a wave of peak 1 at a multiple of the nominal frequency."""
+    sizes = [abs(transform([math.cos(2 * math.pi * ratio * n / 16 + phase * math.pi / 90) for n in range(16)])) for phase in range(180)]
+    return min(sizes), max(sizes)
+
+
+def offset_wave():
+    """The same of cos(t + p) - cos(p) exp(-t / T), for a window that begins up to a cycle after the fault, over p and T."""
+    sizes = []
+    for constant in [hundredths / 100 for hundredths in range(5, 300, 5)]:
+        decayed = transform([math.exp(-n / 16 / constant) for n in range(16)])
+        for begin in [sixteenths / 16 for sixteenths in range(16)]:
+            left = decayed * math.exp(-begin / constant)
+            sizes += [abs(cmath.exp(1j * (phase + 2 * math.pi * begin)) - math.cos(phase) * left)
+                      for phase in [math.radians(degrees) for degrees in range(0, 360, 6)]]
+    return min(sizes), max(sizes)
+
+
+def harmonic(order):
+    return max(abs(transform([math.cos(2 * math.pi * order * n / 16 + phase) for n in range(16)])) for phase in (0, 1, 2))
+
+
+def outward(low, high, places):
+    """Bounds with so many decimals that hold for both."""
+    return f'between {math.floor(low * 10 ** places) / 10 ** places:.{places}f} and {math.ceil(high * 10 ** places) / 10 ** places:.{places}f}'
+
+
+def check_limits():
+    """What the manual says of another frequency, of direct current and of harmonics is what the transform gives."""
+    text = plain('LIMITS')
+    wanted = [f'At 0.98 of the nominal one (49 Hz for 50) the magnitude reads {outward(*off_nominal(0.98), 3)}', f'at 0.95 {outward(*off_nominal(0.95), 3)}',
+              f'The magnitude reads {outward(*offset_wave(), 2)} in a window that lies wholly in the fault']
+    passed = [order for order in range(2, 19) if harmonic(order) > 0.001]
+    wanted.append(f'Harmonics 2 to {passed[0] - 1} are taken out. The ' + ' and the '.join(f'{order}th' for order in passed) + ' count in full')
+    faults.extend(f'{HEADER}: LIMITS does not say "{sentence}"' for sentence in wanted if sentence not in text)
+    return len(wanted)

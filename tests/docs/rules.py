@@ -1,0 +1,255 @@
+"""Holds docs/RULES.md to the source. Each rule has its number, the request that changed it last, and a definition. Its figures are those of
+the definitions that it names. Its tables and drawings say what the source says, as far as that can be read off."""
+import re
+from functools import cache
+from itertools import groupby
+from pathlib import Path
+from typing import NamedTuple
+
+import header
+import manual
+from tree import ROOT, fault, faults, read
+
+PAGE = Path('docs/RULES.md')
+SESSION = Path('crates/session/src/lib.rt')
+GIVEN_BACK = Path('crates/claims/specs/GivenBack.antt')
+DIFFERENTIAL = Path('crates/differential/specs/Differential.antt')
+RATE = Path('crates/phasors/specs/Rate.antt')
+WINDOW = Path('crates/samples/specs/Window.antt')
+MHO = Path('crates/distance/specs/Mho.antt')
+PROGRAM = Path('crates/report/specs/Program.antt')
+REQUESTS = ['document 01'] + [f'CR {n}' for n in range(1, 15)]
+
+
+class Rule(NamedTuple):
+    at: int  # where its row begins in the page
+    number: int
+    cells: dict  # by the heading of their column
+
+
+@cache
+def rules():
+    """The rules of the page: each row that begins with R and a number."""
+    found, heading, at = [], [], 0
+    for line in read(PAGE).splitlines(keepends=True):
+        cells = [cell.strip() for cell in line.strip().strip('|').split('|')]
+        if line.startswith('| rule |'):
+            heading = cells
+        elif m := re.match(r'\| R(\d+) \|', line):
+            found.append(Rule(at, int(m[1]), dict(zip(heading, cells)) if len(cells) == len(heading) else {}))
+        at += len(line)
+    return found
+
+
+def columns(*names):
+    """What stands in some columns of the tables that have them all, rule by rule."""
+    return [[rule.cells[name] for name in names] for rule in rules() if all(name in rule.cells for name in names)]
+
+
+def compare(what, found, wanted):
+    for n, (row, other) in enumerate(zip(found, wanted)):
+        if row != other:
+            faults.append(f'{PAGE}: {what}, row {n + 1} has {row}; the source has {other}')
+    if len(found) != len(wanted):
+        faults.append(f'{PAGE}: {what} has {len(found)} rows; the source has {len(wanted)}')
+    return len(found)
+
+
+def named(rule):
+    return re.findall(r'`([^`]+)`', rule.cells.get('definition', ''))
+
+
+def numbers(text):
+    return [int(n) for n in re.findall(r'-?\b\d+\b', text)]
+
+
+def drawn():
+    """The lines of the drawings."""
+    return '\n'.join(re.findall(r'^```text\n(.*?)^```', read(PAGE), flags=re.DOTALL | re.MULTILINE))
+
+
+# What the definitions say
+
+
+@cache
+def definitions():
+    """The text of each definition of the specs by name, to the next empty line; of a name that several files declare, all of them."""
+    found, word = {}, r'(?:abbrev|unfoldable|pub|record|data)'
+    for path in sorted((ROOT / 'crates').glob('*/specs/*.antt')):
+        text = re.sub(r'--[^\n]*', '', path.read_text(encoding='utf-8')) + '\n\n'
+        for m in re.finditer(rf'^ *(?:{word} +)*([^\s:={{}}()]+)(?: +[({{][^\n]*[)}}])? +:(?=\s)', text, flags=re.MULTILINE):
+            found[m[1]] = found.get(m[1], '') + text[m.start():text.index('\n\n', m.start())] + '\n'
+    return found
+
+
+@cache
+def constants():
+    """The definitions that are a number."""
+    found = {name: re.search(rf'^{re.escape(name)} = (\d+)$', text, flags=re.MULTILINE) for name, text in definitions().items()}
+    return {name: int(m[1]) for name, m in found.items() if m}
+
+
+@cache
+def figures(name, further=1):
+    """The numbers in a definition, in the constants that it names, and in the definitions that it names."""
+    text = re.sub(r'\bnegsuc (\d+)', lambda m: str(int(m[1]) + 1), definitions().get(name, ''))
+    words = set(re.findall(r'[^\s(){},;.]+', text)) - {name}
+    found = {abs(n) for n in numbers(text)} | {constants()[word] for word in words if word in constants()}
+    return found.union(*(figures(word, further - 1) for word in words if further and word in definitions()))
+
+
+def channels(ends):
+    return eval(header.definition(WINDOW, 'channels'), {'N': ends})
+
+
+def worked_out(name):
+    """What the figures of a definition come to, where the page has the result."""
+    if name == 'windowLength':
+        return {constants()['frames'] * channels(ends) for ends in range(2, constants()['mostEnds'] + 1)}
+    if name == 'Above':
+        return {100 * constants()['band']}
+    return {'NotBelow': {constants()['band']}, 'oneAndAHalf': figures('sixteen', 0)}.get(name, set())
+
+
+def answers():
+    """Each call with the numbers that it gives, in its order of checks, each with whether it has a place: the rows of crates/claims."""
+    found = {}
+    for m in re.finditer(r'^pub data (\w+)Row .*?\n(.*?)(?=^\S|\Z)', read(GIVEN_BACK), flags=re.DOTALL | re.MULTILINE):
+        call = re.sub(r'(?<=.)([A-Z])', r'_\1', m[1]).lower()
+        rows = re.findall(rf'{m[1]}Row \w+ \w+(?: \w+)? (?:(\d+)|\(256 \* k \+ (\d+)\))$', m[2], flags=re.MULTILINE)
+        found[call] = {int(plain or placed): bool(placed) for plain, placed in rows}
+    return found
+
+
+# Checks
+
+
+def check_rules():
+    """Rules count up from 1. Each says which request changed it last and names definitions. A rule that is referred to is there."""
+    text, known = read(PAGE), definitions().keys() | set(re.findall(r'\bfn (\w+)', read(SESSION)))
+    for n, rule in enumerate(rules(), 1):
+        by = rule.cells.get('by')
+        wrong = [
+            (not rule.cells, 'has not as many cells as its table has columns'),
+            (rule.number != n, f'stands where R{n} should'),
+            (by not in REQUESTS, f'is by "{by}", which is neither document 01 nor a request'),
+            (not named(rule) or not set(named(rule)) <= known, f'names {named(rule)}, where definitions should stand'),
+        ]
+        for is_so, what in wrong:
+            if is_so:
+                fault(PAGE, text, rule.at, f'R{rule.number} {what}')
+    for m in re.finditer(r'\bR(\d+)\b', text):
+        if not 1 <= int(m[1]) <= len(rules()):
+            fault(PAGE, text, m.start(), f'there is no rule {m[0]}')
+    return len(rules())
+
+
+def check_figures():
+    """Each number from 10 up in a rule, its unit apart, is in a definition that it names, or follows from it."""
+    count, apart = 0, {'rule', 'at', 'bytes', 'bit', 'unit', 'by', 'definition'}
+    for rule in rules():
+        said = ' '.join(cell for column, cell in rule.cells.items() if column not in apart)
+        wanted = set().union(*(figures(name) | worked_out(name) for name in named(rule)))
+        for n in numbers(said.replace('bytes 80 00', '')):
+            count += abs(n) >= 10
+            if abs(n) >= 10 and abs(n) not in wanted:
+                fault(PAGE, read(PAGE), rule.at, f'R{rule.number} has {n}, which is in none of {named(rule)}')
+    return count
+
+
+def check_settings():
+    """The table of fields is that of crates/settings: rows, offsets, limits. The rules on the checks name all of its rules."""
+    text, wanted = read(manual.TABLE), []
+    names = re.findall(r'\b\w+Row\b', ' '.join(re.findall(r'^\w+Rows = (.*)$', text, flags=re.MULTILINE)))
+    for is_byte, group in groupby(manual.settings_rules(), key=lambda rule: rule.startswith('Byte ')):
+        for rule in group:
+            rule = re.sub(r'\(offsetOf (\w+)\)', lambda m: re.search(rf'^{m[1]} = \w+ (\d+)', text, flags=re.MULTILINE)[1], rule)
+            words = (rule.split()[1:] + ['', ''])[1:4] if rule.startswith('Below ') else rule.split()[-3:]
+            if not is_byte or wanted[-1][3] != 'spareRows':
+                wanted.append(words + ['spareRows' if is_byte else names[len(wanted)]])
+            else:
+                wanted[-1][0] = f'{wanted[-1][0].split()[0]} to {words[0]}'
+    found = [row[:3] + [row[3].strip('`')] for row in columns('at', 'from', 'to', 'definition')]
+    fields = [rule.number for rule in rules() if 'at' in rule.cells] or [0]
+    for rule in rules():
+        if {'checkedBy', 'GoodRecord'} & set(named(rule)) and f'R{fields[0]} to R{fields[-1]}' not in rule.cells['now']:
+            fault(PAGE, read(PAGE), rule.at, f'R{rule.number} does not name R{fields[0]} to R{fields[-1]}, the table of fields')
+    return compare('the table of fields', found, wanted)
+
+
+def check_answers():
+    """The table of numbers has those of crates/answers, each with its calls, and a place where it has one. Each call's order of checks,
+    what each answer leaves, and the drawing of the two entries have the numbers that the call gives."""
+    given = answers()
+    wanted = [[str(number), name, any(call.get(number) for call in given.values()), [call for call in given if number in given[call]]]
+              for name, number in header.public('answers').items()]
+    found = [[number, name, place != '0', calls.split(', ')] for number, name, place, calls in columns('number', 'name', 'place', 'calls')]
+    count = compare('the table of numbers', found, wanted)
+    compare('the orders of the checks', [[call, numbers(order)] for call, order in columns('call', 'order of its checks')],
+            [[call, [number for number in rows if number]] for call, rows in given.items()])
+    left = columns('call', 'answer')
+    for call, rows in given.items():
+        told = [n for name, answer in left if name in (call, 'all four') for n in numbers(answer)]
+        if sorted(told) != sorted(rows):
+            faults.append(f'{PAGE}: what {call} leaves is told of {told}; it gives {list(rows)}')
+    arrows = re.findall(r'\b(propose|confirm): (\d(?:, \d)*)', drawn())
+    for call in ('propose', 'confirm'):
+        told = {n for name, answer in arrows if name == call for n in numbers(answer)}
+        if told != set(given[call]) - {17}:
+            faults.append(f'{PAGE}: the drawing of the two entries has {call}: {sorted(told)}')
+    return count
+
+
+def check_measuring():
+    """The lines of the cosines and the sines, the window that is drawn, and its lengths."""
+    line = {name: numbers(rest) for name, rest in re.findall(r'^([CS])\[n\](.*)$', drawn(), flags=re.MULTILINE)}
+    entries = re.findall(r'(negℤ \()?pos (\d+)', header.definition(RATE, 'cosines'))
+    table = [-int(n) if minus else int(n) for minus, n in entries]
+    shift = int(re.search(r'shift = (\d+)', definitions()['sixteen'])[1])
+    compare('the line of the cosines', line.get('C', []), table)
+    compare('the line of the sines', line.get('S', []), table[shift:] + table[:shift])
+    head = re.search(r'^N = (\d+): (\d+) channels, (\d+) numbers', drawn(), flags=re.MULTILINE)
+    ends, *shown = map(int, head.groups() if head else (0, 0, 0))
+    wide = channels(ends)
+    compare('the window that is drawn', shown, [wide, constants()['frames'] * wide])
+    frames = [numbers(m) for m in re.findall(r'^frame +(\d.*?)(?:  +[a-z]+)?$', drawn(), flags=re.MULTILINE)]
+    compare('the indexes that are drawn', frames, [[f, *range(f * wide, (f + 1) * wide)] for f, *_ in frames])
+    lengths = [numbers(rule.cells['now'].partition(':')[2]) for rule in rules() if 'windowLength' in named(rule)]
+    compare('the lengths of windows', lengths, [sorted(worked_out('windowLength'))])
+    return len(table) + len(frames)
+
+
+# How the page begins to tell of a decision's parts, by the names that the header has for them
+CONTENT = {'TRIP': 'trip', 'PHASES': 'phases', 'LOOPS': 'loops', 'DIRECTION': 'direction', None: 'zero',
+           'RESTRAINT': 'restraint U', 'DIFFERENTIAL': '⌊√(4096 s)⌋'}
+
+
+def check_decision():
+    """The bytes of a decision, the bits of phases and loops, the numbers of directions; V, I and Vp of each loop."""
+    parts = {at + k: name.split('_')[2] for name, at in header.decision_offsets().items() for k in range(4 if name[-2] == '_' else 1)}
+    wanted, rows = [], columns('bytes', 'content')
+    for name, group in groupby(range(constants()['decisionLength']), key=parts.get):
+        first, *_, last = [*group] * 2
+        wanted.append([f'{first} to {last}' if first < last else str(first), CONTENT[name]])
+    found = [[place, next((word for word in CONTENT.values() if text.startswith(word)), text)] for place, text in rows]
+    compare('the decision', found, wanted)
+    said = ' '.join(text for _, text in rows)
+    bits = [f'{bit} for {phase.lower()}' for phase, bit in header.weights(DIFFERENTIAL, 'operatingBits').items()]
+    directions = [f'{name.removeprefix("DIRECTION_").lower()} {number}' for name, number in header.directions().items()]
+    faults.extend(f'{PAGE}: the decision does not say "{words}"' for words in (', '.join(bits), ', '.join(directions)) if words not in said)
+    compare('the bits of the loops', columns('loop', 'bit'), [[loop, str(bit)] for loop, bit in header.weights(MHO, 'loopBits').items()])
+    polarised = {'p': 'P', 'ap': 'aP', 'a²p': 'a²P'}
+    loops = []
+    made = r'(\w+) = (ground|phase)Loop ((?:\([vi] \.\w\) ?)+)(?:k )?(\S+);'
+    for loop, kind, members, p in re.findall(made, header.definition(MHO, 'sixOf')):
+        v, i = ([quantity.upper() + phase for quantity, phase in re.findall(r'\((\w) \.(\w)\)', members) if quantity == q] for q in 'vi')
+        loops.append([loop.upper(), ' - '.join(v), ' - '.join(i) + ' + E' * (kind == 'ground'), '-j ' * (kind == 'phase') + polarised[p]])
+    compare('the loops', columns('loop', 'V', 'I', 'Vp'), loops)
+    return len(wanted) + len(loops)
+
+
+def check_lines():
+    """The lines of the window program, as crates/report has them."""
+    wanted = re.findall(r'text "([^"]*)\\n"', read(PROGRAM))
+    found = re.findall(r'`([^`\n]*#[^`\n]*)`', read(PAGE))
+    return compare('the lines of the window program', sorted(found), sorted(wanted))

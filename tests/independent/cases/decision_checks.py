@@ -1,0 +1,105 @@
+"""Document 01's hand checks as windows, with what a decision on each should
+show.
+
+checks() puts them to model/decision.py; windows() gives each window once, for
+an archive.
+"""
+from itertools import product
+from typing import Iterator, NamedTuple
+
+from cases import currents, hand_checks
+from cases.building import (ZERO, exact, exact_case, of_phases, record,
+                            turned)
+from cases.trying import QUIET
+from model.decision import FORM, decision_record
+
+NAMES = ('trip', 'phases', 'loops', 'direction', 'U of a', 'U of b', 'U of c',
+         'root of a', 'root of b', 'root of c')
+
+
+class Check(NamedTuple):
+    name: str
+    record: bytes
+    window: list[int]
+    expected: dict[str, int]    # by NAMES, or whether a phase operates
+
+
+def decision(good: bytes, window: list[int]) -> dict[str, int]:
+    """By NAMES, and whether each phase operates."""
+    found = dict(zip(NAMES, FORM.unpack(decision_record(good, window)),
+                     strict=True))
+    for bit, letter in zip((1, 2, 4), 'abc'):
+        found[f'{letter} operates'] = int(found['phases'] & bit != 0)
+    return found
+
+
+# ---- The hand checks -------------------------------------------------------
+
+def on_phase(phase: int, ends: list[list[int]]) -> list[int]:
+    """A window with these samples on one phase, and nothing elsewhere."""
+    none = [QUIET] * len(ends)
+    return of_phases([QUIET] * 3, turned(phase, ends, none, none))
+
+
+def p1_to_p6() -> Iterator[Check]:
+    """And x[n]=C[n]. With nothing at end 2, U and the root are the size. With
+    one count the opposite way at end 2 the root is 0."""
+    good = record(hand_checks.LINE)
+    for (name, samples, (re, im)), (phase, letter) in product(
+            hand_checks.OF_CHANNEL, enumerate('abc')):
+        size = 64 * (abs(re) + abs(im))
+        yield Check(name, good, on_phase(phase, [samples, QUIET]),
+                    {f'U of {letter}': size, f'root of {letter}': size})
+        if size == 64:
+            yield Check(name, good,
+                        on_phase(phase, [samples, exact((-re, -im))]),
+                        {f'root of {letter}': 0})
+
+
+def p7() -> Iterator[Check]:
+    """3V2 = 3I2 = (866,-500), at right angles to D 3I2: T = 0, between any
+    limits of both signs. |3I2|² = 999956 lies between the squares of 999 and
+    1000."""
+    for zf, zr, pickup, towards in ((-1, 0, 999, 0), (0, 1, 999, 0),
+                                    (1, 2, 999, 1), (-2, -1, 999, 2),
+                                    (1, 2, 1000, 0), (-2, -1, 1000, 0)):
+        line = hand_checks.LINE._replace(zf=zf, zr=zr, pickup=pickup)
+        case = exact_case('P7', line, turned(0, (866, -500)),
+                          [ZERO, (0, 1000), ZERO])
+        yield Check('P7', record(line), case.numbers, {'direction': towards})
+
+
+def p8_to_p11() -> Iterator[Check]:
+    for check in currents.hand_checks():
+        line, letter = hand_checks.LINE._replace(
+            ends=check.ends), 'abc'[check.phase]
+        expected = {f'{letter} operates': int(check.operates)}
+        if check.U is not None:
+            expected[f'U of {letter}'] = check.U
+        yield Check(check.name, record(line, check.K, check.pickup),
+                    check.numbers, expected)
+
+
+def p12_to_p14() -> Iterator[Check]:
+    """And those after them."""
+    for (name, line, window), expected in hand_checks.of_end_1():
+        yield Check(name, record(line), window, expected)
+
+
+def all_of_them() -> Iterator[Check]:
+    yield from p1_to_p6()
+    yield from p7()
+    yield from p8_to_p11()
+    yield from p12_to_p14()
+
+
+def checks():
+    """What is checked, what comes out, what should."""
+    for name, good, window, expected in all_of_them():
+        found = decision(good, window)
+        for what, number in expected.items():
+            yield f'{name}, {what}', found[what], number
+
+
+def windows() -> Iterator[tuple[str, bytes, list[int]]]:
+    return (check[:3] for check in all_of_them())

@@ -1,0 +1,173 @@
+#!/usr/bin/env python3
+"""Looks for a counterexample to demand 3 of document 01 in what decide says of
+a window.
+
+demand3.py [--count N] [--seed S] [--archive PATH]
+
+It takes N windows near the edge of the demand, the closest known among them,
+each with a record for every slope and pickup that is tried on it, and compares
+what comes back with model/decision.py. Then each phase is held against the
+half of the demand that could be wrong about it, for m = 1, 2, 3, 10, 1000 and
+one more by chance. The first difference ends it, and so does the first
+counterexample.
+It fails at the end too if the search was blind: if no phase would have been a
+counterexample to a half with 131072 in place of 196608, or the closest known
+was not seen.
+"""
+import functools
+import random
+import sys
+from itertools import chain, islice, product
+from pathlib import Path
+
+sys.dont_write_bytecode = True
+sys.path[0] = str(Path(__file__).resolve().parents[1])  # model, cases, driving
+from cases import chosen, currents, equalities  # noqa: E402
+from cases.building import as_data  # noqa: E402
+from cases.hunting import first_band, second_band  # noqa: E402
+from cases.records import ROOM  # noqa: E402
+from cases.steps import History  # noqa: E402
+from driving import archive, calls  # noqa: E402
+from driving.sides import NAMES  # noqa: E402
+from model.decision import DECISION, FORM  # noqa: E402
+from model.differential import (F, H, L, by_phase, first_half,  # noqa: E402
+                                second_half, slope)
+from model.measuring import numbers  # noqa: E402
+from model.settings import NOTHING, RECORD  # noqa: E402
+
+BATCH = 5000
+MS = (1, 2, 3, 10, 1000)
+LARGEST_M = 10**6
+TOO_LITTLE = 131072
+
+
+class Half:
+    """One half of the demand, and what was held against it so far. A band
+    stands in place of 196608."""
+
+    def __init__(self, text, contradicted, band, closest):
+        self.text = text
+        self.contradicted = contradicted    # by K, m, sums, perhaps a band
+        self.band = band    # the largest with which it would be
+        self.closest = closest  # that band of the closest phase known
+        self.looked, self.with_too_little, self.largest = 0, 0, -1
+
+    def look(self, K, m, sums):
+        """Whether it is contradicted."""
+        self.looked += 1
+        self.with_too_little += self.contradicted(K, m, sums, TOO_LITTLE)
+        self.largest = max(self.largest, self.band(K, m, sums))
+        return self.contradicted(K, m, sums)
+
+    def report(self):
+        print(f'{self.text}: {self.looked} times (phase, K, pickup, m); '
+              f'{self.with_too_little} would contradict it with {TOO_LITTLE}, '
+              f'and up to {self.largest} one still would')
+
+    def blind(self):
+        """What the search should have seen, and did not."""
+        if self.with_too_little == 0:
+            yield f'{self.text}: none would contradict it with {TOO_LITTLE}'
+        if self.largest < self.closest:
+            yield f'{self.text}: {self.closest}, the closest known, not seen'
+
+
+# "If a phase operates, 100(F + 1 + 196608Nm) > K L for every m."
+FIRST = Half('first half, of phases that operate',
+             lambda *of_phase: not first_half(*of_phase), first_band,
+             153543)
+# "If s >= pickup² and for some m, 100F >= K H + 19660800Nm, it operates."
+SECOND = Half('second half, of phases with s >= pickup² that do not operate',
+              second_half, second_band, 155727)
+
+
+# ---- What the archive says -------------------------------------------------
+
+def said(made, got):
+    """Of each phase whether it operates, U and the root of 4096 s, by the
+    archive's own bytes."""
+    out = got[-len(calls.guarded(made.step.other)):][len(calls.BEFORE):]
+    _, bits, _, _, *six = FORM.unpack(out[:DECISION])
+    return [(bits & bit > 0, U, root)
+            for bit, U, root in zip((1, 2, 4), six[:3], six[3:], strict=True)]
+
+
+def halves(operating, root, pickup):
+    """Those that could be wrong about a phase. s >= pickup² exactly when the
+    floor of the root of 4096 s is at least 64 times the pickup."""
+    if operating:
+        return [FIRST]
+    return [SECOND] if root >= 64 * pickup else []
+
+
+@functools.lru_cache(maxsize=8)
+def sums_by_phase(samples, ends):
+    return [phase.sums for phase in by_phase(numbers(samples), ends)]
+
+
+def contradiction(half, made, name, of_archive, sums, m):
+    """The whole call and the numbers of the demand, for a person."""
+    ends, K, pickup = slope(made.state[:RECORD])
+    operating, U, root = of_archive
+    return (f'COUNTEREXAMPLE to demand 3 in {made.label}\n'
+            f'  {half.text}: phase {name}, {ends} ends, K={K}, '
+            f'pickup {pickup}, m={m}\n'
+            f'  state {made.state.hex()}\n'
+            f'  samples {made.step.samples.hex()}\n'
+            f'  archive: operates: {operating}, U={U}, root of 4096 s {root}\n'
+            f'  A and B of each end: {[tuple(pair) for pair in sums]}\n'
+            f'  L={L(m, sums)}, H={H(m, sums)}, F={F(m, sums)}')
+
+
+def hold(made, got, ms):
+    """What the archive says of a window, if it decided on one, against the
+    demand."""
+    if made.step.call != 'decide' or made.wanted.number != 0:
+        return
+    ends, K, pickup = slope(made.state[:RECORD])
+    by_name = zip(NAMES, said(made, got),
+                  sums_by_phase(made.step.samples, ends), strict=True)
+    for name, of_archive, sums in by_name:
+        operating, _, root = of_archive
+        for half, m in product(halves(operating, root, pickup), ms):
+            if half.look(K, m, sums):
+                sys.exit(contradiction(half, made, name, of_archive, sums, m))
+
+
+# ---- The search ------------------------------------------------------------
+
+def each(found):
+    """Each window with every record that is tried on it."""
+    for label, record, window in chosen.tried(found):
+        yield History(record + NOTHING,
+                      [('decide', ROOM, as_data(window))], label)
+
+
+def look_at(found, rng):
+    """Holds windows against the demand, and gives the number of decides."""
+    total, tried = 0, chain.from_iterable(map(each, found))
+    for made, text in archive.batches(map(calls.follow, tried), BATCH):
+        for one, got in zip(made, archive.compare(made, text), strict=True):
+            hold(one, got, (*MS, rng.randint(1, LARGEST_M)))
+        total += len(made)
+    return total
+
+
+def main():
+    words = archive.arguments(__doc__, 20000, '--archive')
+    archive.build(words.archive)
+    rng, known = random.Random(words.seed), list(equalities.known())
+    total = look_at(known, rng)
+    for half in (FIRST, SECOND):
+        half.with_too_little = 0    # the climb has to find its own
+    near_edge = currents.near_edge(random.Random(words.seed))
+    total += look_at(islice(near_edge, words.count - len(known)), rng)
+    for half in (FIRST, SECOND):
+        half.report()
+    archive.stop_at([*FIRST.blind(), *SECOND.blind()])
+    print(f'demand 3: no counterexample in {words.count} windows near its '
+          f'edge, {total} decides, seed {words.seed}')
+
+
+if __name__ == '__main__':
+    main()

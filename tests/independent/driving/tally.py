@@ -1,0 +1,89 @@
+"""What the compared calls gave, and what all of them together should have given: every answer that document 01 allows, every bit of
+a decision both ways, and every side of a rule that a decision can show."""
+from collections import Counter
+
+from cases.building import ENDS
+from driving import decision_shown
+from model.measuring import BITS, channels, length, line
+from model.settings import ANSWERS, RECORD
+
+# The numbers of decide beside 4, each at place 0. 4 has the places of a window.
+OF_DECIDE = (0, 1, 2, 3, 17)
+PHASES = {'a': 1, 'b': 2, 'c': 4}
+
+
+def of_missing(ends, place):
+    return f'decide 4 at {place}, {ends} ends'
+
+
+def answer(made):
+    call, number, place = made.step.call, made.wanted.number, made.wanted.place
+    if (call, number) == ('decide', 4):
+        return of_missing(line(made.state[:RECORD]).ends, place)
+    return f'{call} {number} at {place}'
+
+
+def answers():
+    """All but those for missing samples."""
+    yield from (f'{call} {number} at {place}' for call, numbers in ANSWERS.items() for number, places in numbers.items()
+                for place in places)
+    yield from (f'decide {number} at 0' for number in OF_DECIDE)
+
+
+def missing(ends):
+    """The answers for missing samples: every place, and those at the edges of a frame."""
+    frame = channels(ends)
+    places = {place: of_missing(ends, place) for place in range(length(ends))}
+    return list(places.values()), [found for place, found in places.items() if place % frame in (0, frame - 1)]
+
+
+def bits(decision):
+    """Bytes 0 to 3 of a decision."""
+    trip, phases, loops, direction = decision[:4]
+    yield f'trip {trip}'
+    yield f'direction {direction}'
+    yield from (f'phase {name}: {phases & bit > 0}' for name, bit in PHASES.items())
+    yield from (f'loop {name}: {loops & bit > 0}' for name, bit in BITS.items())
+
+
+def all_bits():
+    yield from ('trip 0', 'trip 1', 'direction 0', 'direction 1', 'direction 2')
+    for kind, names in (('phase', PHASES), ('loop', BITS)):
+        yield from (f'{kind} {name}: {either}' for name in names for either in (False, True))
+
+
+class Tally:
+    def __init__(self):
+        self.calls, self.answers, self.bits = Counter(), Counter(), Counter()
+        self.sides = set(decision_shown.wanted())
+        self.unseen = set(self.sides)  # those that no decide has shown yet
+        self.looked = 0                # decides until all were shown
+
+    def add(self, made):
+        self.calls[made.step.call] += 1
+        self.answers[answer(made)] += 1
+        if made.step.call != 'decide':
+            return
+        if made.wanted.number == 0:
+            self.bits.update(bits(made.wanted.other))
+        if self.unseen:
+            self.looked += 1
+            if made.wanted.number in (0, 4):
+                self.unseen.difference_update(decision_shown.shown(made))
+
+    def report(self):
+        """How often each answer and each bit was seen; gives what is at fault."""
+        allowed, wanted = [*answers()], [*answers(), *all_bits()]
+        found = self.answers + self.bits
+        for what in wanted:
+            print(f'{what}: {found[what]}')
+        for ends in ENDS:
+            places, edges = missing(ends)
+            seen = [found[place] for place in places if found[place]]
+            print(f'decide 4, {ends} ends: {sum(seen)}, at {len(seen)} of {length(ends)} places')
+            allowed, wanted = allowed + places, wanted + edges
+        seen = len(self.sides) - len(self.unseen)
+        print(f'sides of the rules: {seen} of {len(self.sides)}, seen in the first {self.looked} decides')
+        yield from (f'{what}: never seen' for what in [*wanted, *sorted(self.unseen)] if what in self.unseen or not found[what])
+        yield from (f'{what} is no answer of document 01' for what in sorted(set(self.answers) - set(allowed)))
+        yield from (f'{what} is nothing that a decision can say' for what in sorted(set(self.bits) - set(all_bits())))

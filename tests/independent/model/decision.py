@@ -1,0 +1,73 @@
+"""The rules of document 01 for decide: what it refuses, in its order, and the
+decision record.
+
+Comments in quotes are the document's own sentences.
+"""
+import struct
+from typing import NamedTuple, Optional
+
+from model.differential import by_phase, phases_operating
+from model.measuring import (FORWARD, channel, direction, first_missing,
+                             length, line, loop_bits, negative, numbers,
+                             phasor)
+from model.settings import RECORD, STATE, absent
+
+# ---- Decision record -------------------------------------------------------
+
+DECISION = 32   # its bytes
+# Bytes 0 to 3; "4 to 7 | zero"; "U of a, b, c, 32-bit big-endian"; "floor of
+# the root of 4096 s, for a, b, c, 32-bit".
+FORM = struct.Struct('>4B4x3I3I')
+assert FORM.size == DECISION
+
+
+def trip(phases: int, loops: int, towards: int) -> int:
+    # "trip: 1 if any phase operates, or direction is forward and any loop
+    # asserts; else 0"
+    return int(phases != 0 or (towards == FORWARD and loops != 0))
+
+
+def decision_record(record: bytes, samples: list[int]) -> bytes:
+    """Of a good record, and a window of its length with nothing missing."""
+    given = line(record)
+    phases = by_phase(samples, given.ends)
+    # "Only end 1 is used, here and in the loops."
+    v = [phasor(channel(samples, given.ends, index)) for index in range(3)]
+    i = [phase.phasors[0] for phase in phases]
+    operating = phases_operating(record, phases)
+    asserting = loop_bits(given, given.r, v, i)
+    towards = direction(given, negative(*v), negative(*i))
+    return FORM.pack(trip(operating, asserting, towards), operating,
+                     asserting, towards, *(phase.U for phase in phases),
+                     *(phase.differential for phase in phases))
+
+
+# ---- Numbers given back ----------------------------------------------------
+
+class Decided(NamedTuple):
+    number: int                     # the number given back
+    place: int
+    written: Optional[bytes]        # at the front of the buffer, if done
+
+
+def refuse(number: int, place: int = 0) -> Decided:
+    # "No refusal writes to a lent buffer other than the relay's own state".
+    return Decided(number, place, None)
+
+
+def decide(state: bytes, samples: bytes, room: int) -> Decided:
+    """ "Decide checks 1, 2, 3, 4." The state stays as it is."""
+    if len(state) != STATE:         # "before all others, changes nothing"
+        return refuse(17)
+    in_force = state[:RECORD]
+    if absent(in_force):            # "no settings in force"
+        return refuse(1)
+    found = numbers(samples)
+    if found is None or len(found) != length(line(in_force).ends):
+        return refuse(2)            # "window of another length"
+    if room < DECISION:             # "room below 32 bytes"
+        return refuse(3)
+    missing = first_missing(found)
+    if missing is not None:         # "a missing sample", at its "index in
+        return refuse(4, missing)   # the slice"
+    return Decided(0, 0, decision_record(in_force, found))
