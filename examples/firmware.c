@@ -16,7 +16,7 @@ static void put(uint8_t *record, int at, int number) {
 enum { ENDS = 2, CHANNELS = GORSEPETAL_CHANNELS(ENDS), WINDOW = GORSEPETAL_WINDOW_BYTES(ENDS) };
 
 /* The settings of a line with two ends, all but the slope as the planning department gave them, in the units of the record.
-** examples/line.c shows the way there from volts, ampere and ohms. */
+** examples/line.c shows the way there from volts, amperes and ohms. */
 static void fill(uint8_t record[GORSEPETAL_RECORD_LENGTH], int slope) {
   for (int i = 0; i < GORSEPETAL_RECORD_LENGTH; i++) record[i] = 0;
   put(record, GORSEPETAL_AT_ENDS, ENDS);

@@ -1,6 +1,6 @@
 /*
-** A line as in a substation: three ends, 110 kV, 50 Hz. The network is solved by symmetrical components, its volts and ampere go through
-** transformers and converters to windows, and its ohms and ampere become a settings record by the manual's formulas. Each case says
+** A line as in a substation: three ends, 110 kV, 50 Hz. The network is solved by symmetrical components, its volts and amperes go through
+** transformers and converters to windows, and its ohms and amperess become a settings record by the manual's formulas. Each case says
 ** what to expect and why, and the relay's answer is compared with it: the program ends with 1 if one differs. Run it with:
 ** sh examples/run_line
 **
@@ -34,7 +34,7 @@ static double root(double x) {
 static double size(Complex p) { return root(along(p, p)); }
 static int rounded(double x) { return (int)(x < 0 ? x - 0.5 : x + 0.5); }
 
-/* ---- The line, in primary volts, ampere and ohms ---- */
+/* ---- The line, in primary volts, amperes and ohms ---- */
 
 #define LINE_KM 40.0 /* from end 1 to end 2 */
 #define TEE 0.5      /* of it, where the spur to end 3 leaves */
@@ -141,7 +141,7 @@ static Line solve_line(Kind kind, double place) {
 
 #define ROOT2 1.4142135623730950
 #define VT 1000.0                               /* voltage transformers: 110000 V to 110 V */
-static const double CT[ENDS] = {300, 300, 150}; /* current transformers: so many ampere to 1 A */
+static const double CT[ENDS] = {300, 300, 150}; /* current transformers: so many amperes to 1 A */
 #define CV 300.0 /* counts per secondary volt: 1.2 times the rated voltage has a peak of 107.8 V, 32332 counts of 32767 */
 #define CI 600.0 /* counts per secondary ampere: the range ends at 54.6 A peak. So cv over ci is 1/2 */
 
@@ -169,8 +169,8 @@ static int number_at(const uint8_t *bytes, int at) {
 /* ---- The settings record ---- */
 
 #define SLOPE 30.0         /* percent */
-#define PICKUP 0.2         /* secondary ampere, effective */
-#define PICKUP_3I2 0.1     /* secondary ampere, effective, of three times the negative sequence */
+#define PICKUP 0.2         /* secondary amperes, effective */
+#define PICKUP_3I2 0.1     /* secondary amperes, effective, of three times the negative sequence */
 #define REACH 80.0         /* percent of the line; ends 2 and 3 are equally far, so it ends before both */
 #define FORWARD_LIMIT -0.6 /* secondary ohms: about half of what a fault ahead measures */
 #define REVERSE_LIMIT 3.0  /* and half of what one behind measures: check_limits has both */
@@ -339,7 +339,7 @@ static void print_decision(int trip, int phases, int loops, int direction) {
   printf("direction %d (%s)", direction, DIRECTIONS[direction < 3 ? direction : 3]);
 }
 
-/* Sixty-fourths of a count, 32 bits, upper byte first, as primary ampere. */
+/* Sixty-fourths of a count, 32 bits, upper byte first, as primary amperes. */
 static double primary(const uint8_t *at) {
   return (16777216.0 * at[0] + 65536 * at[1] + 256 * at[2] + at[3]) / 64 / (ROOT2 * CI) * CT[0];
 }

@@ -1,11 +1,12 @@
 /*
-** gorsepetal.h: the protection core of a line relay, for C. This file is the manual: a line can be
+** gorsepetal.h: the protection core of a line relay, for C. This file is the manual, for the
+** engineer who writes a relay's firmware and for the one who works out its settings. A line can be
 ** set, and a decision checked, with nothing else at hand.
 **
 ** Contents: what the library is / in short / lent slices / the relay's state / what comes back /
-** two entries / settings record / units / what each field should be / conventions / a line of three
-** ends, worked out / window / decision / rules / a decision, worked out / outside the library /
-** limits / constants / the four calls.
+** two entries / settings record / units / tests at the panel / what each field should be /
+** conventions / a line of three ends, worked out / window / decision / rules / a decision, worked
+** out / outside the library / limits / constants / the four calls.
 **
 ** WHAT THE LIBRARY IS
 **
@@ -39,8 +40,8 @@
 **
 ** LENT SLICES
 **
-** Each slice is a pointer and a length in bytes. The slice has to be really that long: no call can
-** see whether it is. A slice whose length is not the one that a call wants has a defined answer.
+** Each slice is a pointer and a length in bytes. The length has to be true; no call can check it. A
+** slice of another length than a call wants has a defined answer.
 **   - The pointer is never null, not even with length 0. With length 0 it may be any valid pointer
 **     that is not null; it is never read or written through.
 **   - The slice lies within one object. It may begin at any address: nothing needs to be aligned.
@@ -48,10 +49,11 @@
 **     nor reads one that is not const.
 **   - A const slice is never written, whatever the answer.
 **
-** One overlap defeats the two entries: an `entry` that points at the state's own pending bytes,
-** state + GORSEPETAL_STATE_AT_PENDING, confirms itself. So does a buffer that is kept from the
-** proposal and lent once more. No call can see either. The firmware has to lend confirm the bytes
-** that a person entered the second time, in a buffer that was filled anew.
+** What a call does with slices that overlap is not promised. One overlap defeats the two entries:
+** an `entry` that points at the state's own pending bytes, state + GORSEPETAL_STATE_AT_PENDING,
+** confirms itself. So does a buffer that is kept from the proposal and lent once more. No call can
+** see either. The firmware has to lend confirm the bytes that a person entered the second time, in
+** a buffer that was filled anew.
 **
 ** THE RELAY'S STATE
 **
@@ -75,7 +77,8 @@
 ** WHAT COMES BACK
 **
 ** Each call gives back one number, 256 times the place plus the number of the table.
-** GORSEPETAL_NUMBER and GORSEPETAL_PLACE take them apart.
+** GORSEPETAL_NUMBER and GORSEPETAL_PLACE take them apart: 776 is 8 at 3. GORSEPETAL_ stands before
+** each name.
 **
 **   number  name                 when                      place                 given by
 **   0       DONE                 done                      0                     every call
@@ -84,25 +87,27 @@
 **   3       NO_ROOM              room below 32 bytes       0                     decide, read_back
 **   4       MISSING_SAMPLE       a sample is missing       index of the first    decide
 **   5       OTHER_ENTRY_LENGTH   entry not 32 bytes        0                     propose, confirm
-**   6       OUT_OF_RANGE         a field is out of range   the field's offset    propose
+**   6       OUT_OF_RANGE         a field is out of range   offset of the field   propose
 **   7       NOTHING_PENDING      nothing is pending        0                     confirm
-**   8       DIFFERS              confirmation differs      offset of first byte  confirm
+**   8       DIFFERS              confirmation differs      first differing byte  confirm
 **   17      NO_RELAY             state not 64 bytes        0                     every call
 **
-** No number is given back in any other condition, and no other number by these calls. Where several
-** conditions hold, the first in the call's order of checks is given. 9 to 16 are not in use.
+** Each number is given back in its own condition and in no other. These calls give no other number;
+** 9 to 16 are not in use. Where several conditions hold, the first in the call's order of checks is
+** given.
 **
 ** TWO ENTRIES
 **
 ** A record comes into force only by two entries with no other entry between them. Decide and
-** read-back are no entries and change nothing, so they may come between.
+** read-back are no entries and change nothing, so they may come between; so may a call answered 17.
 **
-**                    propose, done               confirm, done
-**   +---------+    ---------------->   +-----+   -------------->   the record is in force,
-**   | nothing |                        | one |                     and nothing is pending
-**   | pending |    <----------------   |     |   ----+
-**   +---------+   any entry refused:   +-----+       |  propose, done: the new entry is
-**                     5, 6, 7, 8          ^----------+  pending in place of the old one
+**                       propose, done                    confirm, done
+**   +-----------+     ---------------->   +-----------+   ------------->   the record is in force,
+**   |  nothing  |                         |    one    |                    and nothing is pending
+**   |  pending  |     <----------------   |  pending  |   ---+
+**   +-----------+     refused: 5, 6, 8    +-----------+      |  propose, done: the new entry
+**    ^        |                                 ^------------+  is pending in place of the old
+**    +--------+  refused: 5, 6, 7
 **
 **   propose, done (0)                the entry is pending, in place of any earlier pending record
 **   propose, refused (5, 6)          nothing is pending
@@ -138,15 +143,15 @@
 ** V/I is one voltage count per current count. It is NOT an ohm: the next section has the way from
 ** ohms.
 **
-** The squares of the two parts of D sum to 998000 at least and 1002000 at most; a fault is reported
-** at 18. zf is below zr; a fault is reported at 22. The fields are checked in order of offset, and
-** each of these two rules right after the range at its offset. A spare byte that is not zero is
-** reported at its own offset, 26 to 31.
+** The squares of the two parts of D sum to 998000 at least and 1002000 at most; an error is
+** reported at 18. zf is below zr; an error is reported at 22. The fields are checked in order of
+** offset, and each of these two rules right after the range at its offset. A spare byte that is not
+** zero is reported at its own offset, 26 to 31.
 **
 ** UNITS
 **
-** The library knows counts and nothing else: it is told no volts, no ampere and no ohms. A count is
-** the unit of a sample. A steady wave of peak p has a phasor of p counts, so pickups are peak
+** The library knows counts and nothing else: it is told no volts, no amperes and no ohms. A count
+** is the unit of a sample. A steady wave of peak p has a phasor of p counts, so pickups are peak
 ** values, not effective ones. Two figures of the firmware turn secondary values into settings:
 **
 **   cv   counts per volt: what one volt at the relay's terminals comes to in a sample
@@ -165,8 +170,8 @@
 **   ampere(secondary) = ampere(primary) / CT ratio
 **   ohms(secondary)   = ohms(primary) x CT ratio / VT ratio
 **
-** Settings are whole numbers. Round to the nearest; where a bound has to be kept, to its safe side:
-** Z and r down, a pickup that must not be undercut up.
+** Settings are whole numbers. Round to the nearest. Where a bound has to be kept, round to its safe
+** side: Z and r down, and a pickup up if the current must not be lower.
 **
 ** The mho rule uses the product r x Z and nothing else of the two. Where Z1 comes to more than
 ** 20000, enter half of it as Z and twice the r: 1640 with Z1 / 2 is 820 with Z1. A zf or zr beyond
@@ -174,20 +179,37 @@
 **
 ** WARNING. No range can tell one unit from another. With cv / ci = 1/2 a replica entered in
 ** thousandths of an ohm is twice as large as it should be: propose and confirm both answer 0, and
-** at r = 800 zone 1 reaches 160 percent of the line. With cv / ci above 1 it reaches too short. So
-** work the settings out with cv and ci, let a second person do it too, and then test both:
-**   - Reach, with a test set, when the settings are in force: Vb and Vc sound, Va in their middle
-**     and smaller, current on phase a alone, Ia behind Va by the angle of Z1 (1 + k). As
-**     magnitudes, in volts, ampere and ohms, with r as a fraction: Va = f x r x Z1 (1 + k) x Ia.
-**     Loop AG, bit 1 of byte 2, has to assert at f = 0.95 and not at f = 1.05. No other test sees a
-**     wrong unit.
-**   - Currents, under a load of known size: U (bytes 8 to 19) has to be 64 x the peak counts, added
-**     up over the ends, and the differential (bytes 20 to 31) no more than the charging current.
+** at r = 800 zone 1 reaches 160 percent of the line. With cv / ci above 1 it reaches too short. A
+** zf or zr that is too large leaves faults without a direction. So work the settings out with cv
+** and ci, let a second person do it too, and TEST THE RELAY before it guards the line.
+**
+** TESTS AT THE PANEL
+**
+** With a test set at end 1, the settings in force, and the other ends sending zeros: three voltages
+** of magnitude E at their usual angles, but Va smaller; current Ia on phase a alone. All in
+** secondary volts, amperes and ohms, with Z1 and k of the line and r as a fraction. The
+** differential trips throughout: look at bytes 2 and 3 of the decision, not at byte 0.
+**
+**   - Reach: Ia behind Va by the angle of Z1 (1 + k), and Va = f x r x |Z1 (1 + k)| x Ia.
+**     GORSEPETAL_LOOP_AG has to be set at f = 0.95 and not at f = 1.05.
+**   - Forward limit: Ia behind Va by the line angle, and Va = E - f x |zf| x Ia. The direction has
+**     to be forward at f = 1.05 and none at f = 0.95.
+**   - Reverse limit: the current turned round, and Va = E - f x zr x Ia. The direction has to be
+**     reverse at f = 1.05 and none at f = 0.95.
+**   - Currents, under a load of known primary size. Bytes 8 to 19, divided by 64, have to be its
+**     peak counts, added up over the ends. Bytes 20 to 31, divided by 64, have to be no more than
+**     the charging current in peak counts and what the transformers' errors add. An end that is
+**     reversed or wrongly scaled shows here.
+**
+** Raise a current at one end until its phase operates: that is the pickup. These tests do not find
+** a transformer ratio that is wrong on paper, since it goes into the settings and into the test set
+** alike. The load shows it for the currents; for the voltages nothing here does.
 **
 ** WHAT EACH FIELD SHOULD BE
 **
-**   N    every end that sends its currents, the local one too. A tap that sends none is no end;
-**        what it takes flows in and not out again, and the pickup has to lie above it.
+**   N    every end that sends its currents, the local one too. A tap that sends none is not an end:
+**        set the pickup above the current that it takes. The relay at each end has a record of its
+**        own, and is end 1 there.
 **   K    percent, above what a current through the line can fake, below what a fault leaves that
 **        has to trip. Current transformers with an error of e percent at every end fake at most e
 **        percent. On two ends, clocks that differ by an angle d fake sin(d / 2): 9 percent for 10
@@ -203,12 +225,13 @@
 **   Z, r the replica Z is Z1, the positive sequence impedance of the line from the relay to the far
 **        end, and r the part of it that zone 1 covers, usually 800 to 850. There is no delay: a
 **        loop that asserts trips if the direction is forward. So r x Z has to stay below Z1. With
-**        more than two ends take the far end with the SMALLEST Z1: zone 1 then covers so many ohms
-**        on the way to every end, and the differential covers all of the line. Beyond the tee,
+**        more than two ends take the far end with the SMALLEST |Z1|: zone 1 then covers so many
+**        ohms on the way to every end, and the differential covers all of the line. Beyond the tee,
 **        current that another end feeds in makes a loop see a fault farther away than it is;
 **        current that an end lets out makes it see the fault nearer, and r has to be smaller there.
 **        Distance cannot be switched off; r = 1 leaves a thousandth of it.
-**   k, D of the line from the relay to that same end.
+**   k, D of the line from the relay to that same end. A k beyond its range, as of some cables,
+**        cannot be set; the ground loops then reach otherwise.
 **   zf   the relay measures V2 / I2, its part along the line angle. For a fault ahead that is minus
 **        Zb, the negative sequence impedance of the SOURCE BEHIND the relay. That is why zf is
 **        negative: forward means below zf. Every Zb has to be told as forward, so -Zb < zf for the
@@ -231,10 +254,12 @@
 **   - Currents are positive INTO THE LINE, at every end. A load current through a line of two ends
 **     has opposite signs at its two ends, and the sum over all ends is what the line itself takes.
 **   - A count of current is the same primary current at every end. Where an end has another
-**     transformer ratio or another ci, the firmware scales its samples to end 1, to the nearest
-**     whole number: a transformer of 300/1 A beside one of 600/1 A at end 1 gives samples that are
-**     to be halved. A missing sample stays -32768 and is not scaled; what would leave -32767 to
-**     32767 is clipped.
+**     transformer ratio or another ci, the firmware multiplies its samples by (CT ratio / ci) of
+**     that end over (CT ratio / ci) of end 1, to the nearest whole number: a transformer of 300/1 A
+**     beside one of 600/1 A at end 1 gives 1/2. A missing sample stays -32768 and is not scaled;
+**     what would leave -32767 to 32767 is clipped there.
+**   - The largest current has to fit, with its offset: 32767 counts are 32767 / (1.4142 ci)
+**     amperes, and half of that where the offset is full.
 **   - All samples of a frame are of one moment. Clocks are aligned before decide is called.
 **
 ** A current transformer that is reversed at one end looks like this. Under load the differential
@@ -292,8 +317,8 @@
 ** The number of frame f and channel c, both counted from 0, has the index (3 + 3N)f + c, and its
 ** two bytes begin at twice that. A window may begin at any frame, and windows may overlap: decide
 ** may be called with every new frame, each time on the newest 16. The number -32768,
-** GORSEPETAL_MISSING, bytes 80 00, marks a missing sample. A converter has to clip at -32767 and
-** 32767: see LIMITS.
+** GORSEPETAL_MISSING, bytes 80 00, marks a missing sample; it serves for frames that have not come
+** yet, too. A converter has to clip at -32767 and 32767: see LIMITS.
 **
 ** DECISION
 **
@@ -399,9 +424,9 @@
 **   - Clipped samples are not detected. A converter that clips at -32768 turns a heavy fault into
 **     refusal 4, a missing sample, and there is no decision just then. It has to clip at -32767, at
 **     every end.
-**   - While a far end's samples are missing there is no decision, by distance neither. Zeros in
-**     their place would look like a fault on the line. What the relay does meanwhile is the
-**     firmware's matter.
+**   - While a far end's samples are missing there is no decision at all, not even by distance.
+**     Zeros in their place would look like a fault on the line. One missing sample is in 16 windows
+**     in a row. What the relay does meanwhile is the firmware's matter.
 **   - One window is one cycle, and one decision is of one window. A window that lies across the
 **     beginning of a fault is part load and part fault. How many decisions in a row to trust, and
 **     how long to hold a trip, is the firmware's matter.

@@ -13,8 +13,8 @@
   has every statement of that crate; the counts of assumed C functions are those that the checks of the crates gave, which must all have
   been proved here.
 - docs/WRONG-RELAYS.md: it names each must-fail edit below its crate, in the order of the layers, and no other.
-- docs/RULES.md: its rules are numbered, and each says by which request it stands and names definitions, which have its figures; its tables
-  and drawings say what the source says.
+- docs/RULES.md: its rules are numbered, and each says by which request it stands and names definitions, which have its figures, or for a
+  rule of ours a section of the manual; its tables and drawings say what the source says; its examples follow from their formulas.
 - crates.txt names what each crate uses, and nothing more.
 - In tests/independent/ imports go one way, from what drives to the cases to the model, and its README.md has a line for each file.
 - No crate, and not all of them together, takes more lines of proof for a line of code than docs/ARCHITECTURE.md allows.
@@ -47,7 +47,7 @@ def main():
         'limits in the manual': manual.check_limits(),
         'settings worked out in the manual': worked.check_example(),
         'steps of the decision worked out in the manual': worked.check_decision(),
-        'sides of the test of the reach': worked.check_reach_test(),
+        'tests at the panel': worked.check_tests(),
         'rules': rules.check_rules(),
         'figures in the rules': rules.check_figures(),
         'fields in the rules': rules.check_settings(),

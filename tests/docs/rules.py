@@ -1,5 +1,7 @@
 """Holds docs/RULES.md to the source. Each rule has its number, the request that changed it last, and a definition. Its figures are those of
-the definitions that it names. Its tables and drawings say what the source says, as far as that can be read off."""
+the definitions that it names, or of a section of the manual. Its tables and drawings say what the source says, as far as that can be read
+off. The examples before the rules follow from their own formulas."""
+import math
 import re
 from functools import cache
 from itertools import groupby
@@ -18,7 +20,8 @@ RATE = Path('crates/phasors/specs/Rate.antt')
 WINDOW = Path('crates/samples/specs/Window.antt')
 MHO = Path('crates/distance/specs/Mho.antt')
 PROGRAM = Path('crates/report/specs/Program.antt')
-REQUESTS = ['document 01'] + [f'CR {n}' for n in range(1, 15)]
+OURS = 'ours'  # what neither document 01 nor a request has; the manual has it
+REQUESTS = ['01', OURS] + [f'CR {n}' for n in range(1, 15)]
 
 
 class Rule(NamedTuple):
@@ -46,6 +49,14 @@ def columns(*names):
     return [[rule.cells[name] for name in names] for rule in rules() if all(name in rule.cells for name in names)]
 
 
+def table(first):
+    """The rows of the table that has this heading above its first column, by the headings of the columns."""
+    m = re.search(rf'^(\| {first} \|.*)\n\|[-|]+\n((?:\|.*\n)*)', read(PAGE), flags=re.MULTILINE)
+    lines = [m[1], *m[2].splitlines()] if m else ['']
+    heading, *rows = ([cell.strip() for cell in line.strip('|').split('|')] for line in lines)
+    return [dict(zip(heading, row)) for row in rows]
+
+
 def compare(what, found, wanted):
     for n, (row, other) in enumerate(zip(found, wanted)):
         if row != other:
@@ -57,6 +68,11 @@ def compare(what, found, wanted):
 
 def named(rule):
     return re.findall(r'`([^`]+)`', rule.cells.get('definition', ''))
+
+
+def in_manual(rule):
+    """The section of the manual that a rule of ours names."""
+    return manual.section(rule.cells.get('definition', '')) if rule.cells.get('by') == OURS else ''
 
 
 def numbers(text):
@@ -102,10 +118,14 @@ def channels(ends):
     return eval(header.definition(WINDOW, 'channels'), {'N': ends})
 
 
+def lengths():
+    return [constants()['frames'] * channels(ends) for ends in range(2, constants()['mostEnds'] + 1)]
+
+
 def worked_out(name):
     """What the figures of a definition come to, where the page has the result."""
     if name == 'windowLength':
-        return {constants()['frames'] * channels(ends) for ends in range(2, constants()['mostEnds'] + 1)}
+        return set(lengths()) | {2 * length for length in lengths()}
     if name == 'Above':
         return {100 * constants()['band']}
     return {'NotBelow': {constants()['band']}, 'oneAndAHalf': figures('sixteen', 0)}.get(name, set())
@@ -125,15 +145,17 @@ def answers():
 
 
 def check_rules():
-    """Rules count up from 1. Each says which request changed it last and names definitions. A rule that is referred to is there."""
+    """Rules count up from 1. Each says what changed it last, and names definitions or a section of the manual. A rule that is referred to
+    is there. The page has the newest version."""
     text, known = read(PAGE), definitions().keys() | set(re.findall(r'\bfn (\w+)', read(SESSION)))
     for n, rule in enumerate(rules(), 1):
         by = rule.cells.get('by')
         wrong = [
             (not rule.cells, 'has not as many cells as its table has columns'),
             (rule.number != n, f'stands where R{n} should'),
-            (by not in REQUESTS, f'is by "{by}", which is neither document 01 nor a request'),
-            (not named(rule) or not set(named(rule)) <= known, f'names {named(rule)}, where definitions should stand'),
+            (by not in REQUESTS, f'is by "{by}", which is neither 01 nor a request nor "{OURS}"'),
+            (by == OURS and not in_manual(rule), f'names "{rule.cells.get("definition")}", where a section of the manual should stand'),
+            (by != OURS and not named(rule) or not set(named(rule)) <= known, f'names {named(rule)}, where definitions should stand'),
         ]
         for is_so, what in wrong:
             if is_so:
@@ -141,20 +163,47 @@ def check_rules():
     for m in re.finditer(r'\bR(\d+)\b', text):
         if not 1 <= int(m[1]) <= len(rules()):
             fault(PAGE, text, m.start(), f'there is no rule {m[0]}')
+    version = header.version()['VERSION'].strip('"')
+    if f'\n\nVersion {version}. ' not in text:
+        faults.append(f'{PAGE}: it does not begin with "Version {version}."')
     return len(rules())
 
 
 def check_figures():
-    """Each number from 10 up in a rule, its unit apart, is in a definition that it names, or follows from it."""
+    """Each number from 10 up in a rule, its unit apart, is in a definition that it names, or follows from it, or is in the section of the
+    manual that it names."""
     count, apart = 0, {'rule', 'at', 'bytes', 'bit', 'unit', 'by', 'definition'}
     for rule in rules():
         said = ' '.join(cell for column, cell in rule.cells.items() if column not in apart)
-        wanted = set().union(*(figures(name) | worked_out(name) for name in named(rule)))
+        wanted = set(map(abs, numbers(in_manual(rule)))).union(*(figures(name) | worked_out(name) for name in named(rule)))
         for n in numbers(said.replace('bytes 80 00', '')):
             count += abs(n) >= 10
             if abs(n) >= 10 and abs(n) not in wanted:
-                fault(PAGE, read(PAGE), rule.at, f'R{rule.number} has {n}, which is in none of {named(rule)}')
-    return count
+                fault(PAGE, read(PAGE), rule.at, f'R{rule.number} has {n}, which is in none of {named(rule) or rule.cells["definition"]}')
+    return count + check_back()
+
+
+def check_back():
+    """What the table of ways back from counts gives as examples comes out of its formulas, with the figures that the manual has too."""
+    text, rows = read(PAGE), table('you have')
+    given = re.search(r'The examples have (.*?)\.\n', text)
+    known = {name: float(value) for name, value in re.findall(r'(\w+) = (\d+)', given[1] if given else '')}
+    ours = manual.plain('A LINE OF THREE ENDS, WORKED OUT'), manual.plain('UNITS')
+    wanted = re.findall(r'\b(c[vi]) = (\d+) counts', ours[0]) + [*zip(('CT', 'VT'), re.findall(r'\d+/\d+ [AV] is (\d+)', ours[1]))]
+    compare('the figures of the examples', sorted(known.items()), sorted((name, float(value)) for name, value in wanted))
+    for row in rows:
+        given, _, result = row['example'].rpartition(': ')
+        values = {name: float(value) for name, value in re.findall(r'(\w+) = (-?[\d.]+)', given)}
+        formula = row['formula'].replace('·', '*').replace('²', '**2').replace('√', 'sqrt')
+        if not re.fullmatch(r'[\w\s()+*/.]+', formula) or not set(re.findall(r'[a-zA-Z]+', formula)) <= {*known, *values, 'sqrt'}:
+            faults.append(f'{PAGE}: "{row["example"]}" has not what its formula needs')
+            continue
+        shown, exact = result.split()[0], eval(formula, {'sqrt': math.sqrt, **known, **values})
+        if shown != f'{exact:.{len(shown.partition(".")[2])}f}':
+            faults.append(f'{PAGE}: "{row["example"]}" does not come out; it is {exact:.4f}')
+        if (written := re.match(r'((?:[0-9A-F]{2} ){4})is value', given)) and int(written[1].replace(' ', ''), 16) != values['value']:
+            faults.append(f'{PAGE}: "{row["example"]}" has another value than its bytes')
+    return len(rows)
 
 
 def check_settings():
@@ -197,11 +246,43 @@ def check_answers():
         told = {n for name, answer in arrows if name == call for n in numbers(answer)}
         if told != set(given[call]) - {17}:
             faults.append(f'{PAGE}: the drawing of the two entries has {call}: {sorted(told)}')
-    return count
+    return count + check_said()
+
+
+def meant(number, place):
+    """What the row of a number with a place has to name: the rules of the field there, or the sample as its N, frame, channel and name."""
+    if number != header.public('answers')['MISSING_SAMPLE']:
+        field = place - place % 2 if number == header.public('answers')['DIFFERS'] else place
+        return ' or '.join(f'R{rule.number}' for rule in rules() if rule.cells.get('at') == str(field)) + ':'
+    frame, channel = divmod(place, channels(2))
+    name = f'I{"abc"[channel % 3]} of end {channel // 3}' if channel >= 3 else f'V{"abc"[channel]}'
+    return f'N = 2: frame {frame}, channel {channel}, {name}'
+
+
+def check_said():
+    """What the relay says: each number of crates/answers, with a place where it has one; what C gets of it; what it names. Divisions that
+    leave something over come out, and are by the weight of a place or by the channels of a window."""
+    rows, weight = table('said'), header.constants('answers')['PLACE_WEIGHT']
+    placed = {number for call in answers().values() for number, has_place in call.items() if has_place}
+    said = [numbers(row['said']) for row in rows]
+    compare('what the relay says', [*dict.fromkeys(number for number, *_ in said)], [*header.public('answers').values()])
+    for row, (number, *place) in zip(rows, said):
+        at = place[0] if place else 0
+        wrong = [
+            (row['said'] != (f'{number} at {at}' if number in placed else str(number)), 'its place'),
+            (row['C gets'] != str(weight * at + number), f'what C gets, {weight * at + number}'),
+            (bool(place) and meant(number, at) not in row['means'], f'"{meant(number, at)}"'),
+        ]
+        faults.extend(f'{PAGE}: the row "{row["said"]}" of what the relay says lacks {what}' for is_so, what in wrong if is_so)
+    divided = [[*map(int, m)] for m in re.findall(r'(\d+) / (\d+) is (\d+), (\d+) left over', read(PAGE))]
+    for whole, by, *result in divided:
+        if tuple(result) != divmod(whole, by) or by not in (weight, channels(2)):
+            faults.append(f'{PAGE}: {whole} / {by} does not give {result}')
+    return len(rows) + len(divided)
 
 
 def check_measuring():
-    """The lines of the cosines and the sines, the window that is drawn, and its lengths."""
+    """The lines of the cosines and the sines, the window that is drawn, its lengths, and where a converter clips."""
     line = {name: numbers(rest) for name, rest in re.findall(r'^([CS])\[n\](.*)$', drawn(), flags=re.MULTILINE)}
     entries = re.findall(r'(negℤ \()?pos (\d+)', header.definition(RATE, 'cosines'))
     table = [-int(n) if minus else int(n) for minus, n in entries]
@@ -214,8 +295,11 @@ def check_measuring():
     compare('the window that is drawn', shown, [wide, constants()['frames'] * wide])
     frames = [numbers(m) for m in re.findall(r'^frame +(\d.*?)(?:  +[a-z]+)?$', drawn(), flags=re.MULTILINE)]
     compare('the indexes that are drawn', frames, [[f, *range(f * wide, (f + 1) * wide)] for f, *_ in frames])
-    lengths = [numbers(rule.cells['now'].partition(':')[2]) for rule in rules() if 'windowLength' in named(rule)]
-    compare('the lengths of windows', lengths, [sorted(worked_out('windowLength'))])
+    told = [numbers(rule.cells['now'].partition(':')[2]) for rule in rules() if 'windowLength' in named(rule)]
+    compare('the lengths of windows', told, [lengths() + [2 * length for length in lengths()]])
+    largest = -header.constants('samples')['MISSING'] - 1
+    if f'clip at -{largest} and {largest}' not in read(PAGE):
+        faults.append(f'{PAGE}: it does not say that a converter must clip at -{largest} and {largest}')
     return len(table) + len(frames)
 
 

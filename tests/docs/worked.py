@@ -93,32 +93,52 @@ def check_decision():
     return len(steps)
 
 
-# The test of the reach
+# The tests at the panel
 
 
 def with_wave(numbers, channel, phasor):
-    """A window with a steady wave of that peak in a channel, as a converter gives it."""
+    """A steady wave of that peak in a channel, as a converter gives it."""
     for n in range(16):
         numbers[12 * n + channel] = round((phasor * cmath.exp(2j * math.pi * n / 16)).real)
 
 
-def asserts(record, fraction):
-    """Whether AG asserts by a record when the test set gives this fraction of the reach of the worked line: cv = 100, ci = 200, 4 A."""
-    z1, k, numbers = 0.8 + 4.0j, complex(0.628, 0.026), [0] * measuring.length(3)
-    loop, sound, ampere = z1 * (1 + k), 100 * math.sqrt(2) * 63.5, 4
-    with_wave(numbers, 0, 100 * math.sqrt(2) * fraction * 0.8 * abs(loop) * ampere)
-    with_wave(numbers, 1, sound * cmath.rect(1, -2 * math.pi / 3))
-    with_wave(numbers, 2, sound * cmath.rect(1, 2 * math.pi / 3))
-    with_wave(numbers, 3, 200 * math.sqrt(2) * ampere * abs(loop) / loop)
+def tested(record, va, ia):
+    """Loop AG and the direction by a record, when the test set gives this Va and Ia, secondary and effective: cv = 100, ci = 200."""
+    numbers = [0] * measuring.length(3)
+    for channel, volts in enumerate((va, cmath.rect(SOUND, -2 * math.pi / 3), cmath.rect(SOUND, 2 * math.pi / 3))):
+        with_wave(numbers, channel, 100 * math.sqrt(2) * volts)
+    with_wave(numbers, 3, 200 * math.sqrt(2) * ia)
     decided = decision.decide(record + bytes(32), b''.join((x % 65536).to_bytes(2, 'big') for x in numbers), 32).written
-    return decided[2] & 1 == 1
+    return decided[2] & 1, decided[3]
 
 
-def check_reach_test():
-    """The test that the manual gives tells the worked record from the same in thousandths of an ohm."""
+SOUND, AMPERE = 57.7, 4
+Z1, K = 0.8 + 4.0j, complex(0.628, 0.026)
+LOOP = Z1 * (1 + K)
+
+
+def reach(record, f):
+    return tested(record, f * 0.8 * abs(LOOP) * AMPERE, AMPERE * abs(LOOP) / LOOP)[0]
+
+
+def forward(record, f):
+    return tested(record, SOUND - f * 0.45 * AMPERE, AMPERE * abs(Z1) / Z1)[1]
+
+
+def reverse(record, f):
+    return tested(record, SOUND - f * 1.3 * AMPERE, -AMPERE * abs(Z1) / Z1)[1]
+
+
+def check_tests():
+    """Each test of the manual gives what it says by the worked record, and something else by the same in thousandths of an ohm."""
     right = worked_record()
-    wrong = right[:6] + bytes.fromhex('03200FA0') + right[10:]
-    fractions = [float(f) for f in re.findall(r'f = (\d\.\d+)', plain('UNITS'))]
-    if len(fractions) != 2 or [asserts(right, f) for f in fractions] != [True, False] or not all(asserts(wrong, f) for f in fractions):
-        faults.append(f'{HEADER}: the test of the reach at {fractions} does not tell the right record from the one in thousandths of an ohm')
-    return len(fractions)
+    wrong = right[:6] + bytes.fromhex('03200FA0') + right[10:20] + bytes.fromhex('FE3E0514') + right[24:]
+    text = plain('TESTS AT THE PANEL')
+    for test, shown, wanted in ((reach, 'GORSEPETAL_LOOP_AG has to be set at f = 0.95 and not at f = 1.05', {0.95: 1, 1.05: 0}),
+                                (forward, 'The direction has to be forward at f = 1.05 and none at f = 0.95', {1.05: 1, 0.95: 0}),
+                                (reverse, 'The direction has to be reverse at f = 1.05 and none at f = 0.95', {1.05: 2, 0.95: 0})):
+        if shown not in text:
+            faults.append(f'{HEADER}: the tests at the panel do not say "{shown}"')
+        if any(test(right, f) != said for f, said in wanted.items()) or all(test(wrong, f) == said for f, said in wanted.items()):
+            faults.append(f'{HEADER}: the test of {test.__name__} does not tell the right record from the one in thousandths of an ohm')
+    return 3
