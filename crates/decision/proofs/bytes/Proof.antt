@@ -1,7 +1,16 @@
 -- `decision::bytes` meets its contract: each number is written over zeros at its offset.
+use mathlib.Core.Path.{_≡_, refl, _∙_}
+use mathlib.Core.List.{List}
+use Prim.Native.Nat.{ℕ}
 use borrow.Author.Needs.{needs}
+use Rattle.lent.specs.Lent.{over}
+use Rattle.decision.specs.Decision.{word}
 use Rattle.decision.proofs.bytes.Statement.{statement}
 use Rattle.decision.proofs.bytes.Tie as tie
+
+-- one more number written over what is there
+more : (at : ℕ) {x r s : List ℕ} {m n : ℕ} → x ≡ over r at (word m) → r ≡ s → m ≡ n → x ≡ over s at (word n)
+more at e f g = e ∙ (λ k. over (f k) at (word (g k)))
 
 returns : tie.Need-returns
 returns c =
@@ -12,23 +21,13 @@ returns c =
     let m1 = w4 .before in
     let w3 = m1 .before in
     let w2 = w3 .before in
-    let w1 = w2 .before in
-    let f = w1 .before in
-    let d = f .before in
-    rw (
-      c .with-word6 .ensures,
-      w5 .with-word5 .ensures,
-      w4 .with-word4 .ensures,
-      w3 .with-word3 .ensures,
-      w2 .with-word2 .ensures,
-      w1 .with-word .ensures,
-      f .front .ensures,
-      d .number .ensures,
-      d .before .trip .ensures,
-      m3 .magnitude3 .ensures .0,
-      m2 .magnitude2 .ensures .0,
-      m1 .magnitude .ensures .0,
-    )
+    let f = w2 .before .before in
+    let front = rw (f .before .before .trip .ensures, f .before .number .ensures) at (f .front .ensures) in
+    more 28 (c .with-word6 .ensures)
+    (more 24 (w5 .with-word5 .ensures)
+    (more 20 (w4 .with-word4 .ensures)
+    (more 16 (w3 .with-word3 .ensures) (more 12 (w2 .with-word2 .ensures) (more 8 (w2 .before .with-word .ensures) front refl) refl) refl)
+    (m1 .magnitude .ensures .0)) (m2 .magnitude2 .ensures .0)) (m3 .magnitude3 .ensures .0)
 
 pub bytes-spec : {M : Type 1} → statement M
 bytes-spec =

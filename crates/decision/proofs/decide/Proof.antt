@@ -19,6 +19,6 @@ pub decide-spec : {M : Type 1} → statement M
 decide-spec =
     tie.close
     (tie.spec
-    (λ c κs. search needs) (λ c. search (needs, decide-2)) (λ c. search (needs, decide-3)) (λ c κs. search needs)
-    (λ c. search needs) cast-t11 (λ c. search needs) (λ c κs. search needs) (λ c. search needs)
-    (λ c κs. search needs) (λ c. search (needs, decide-4)) (λ c. search needs) (λ c. search (needs, decide-0)))
+    (λ c κs. search) (λ c. search decide-2) (λ c. search decide-3) (λ c κs. search _∙_)
+    (λ c. search) cast-t11 (λ c. search) (λ c κs. search _∙_) (λ c. search)
+    (λ c κs. search needs) (λ c. search decide-4) (λ c. search) (λ c. search decide-0))

@@ -1,6 +1,5 @@
 -- `decision::decision` meets its contract.
 use mathlib.Core.Path.{ap, _∙_}
-use borrow.Author.Needs.{needs}
 use Rattle.decision.specs.Decision.{decisionBytes}
 use Rattle.decision.proofs.decision.Statement.{statement}
 use Rattle.decision.proofs.decision.Tie as tie
@@ -9,4 +8,4 @@ returns : tie.Need-returns
 returns c = c .bytes .ensures ∙ ap decisionBytes (c .before .findings-in .ensures .0)
 
 pub decision-spec : {M : Type 1} → statement M
-decision-spec = tie.close (tie.spec (λ c κs. search needs) (λ c κs. search needs) returns)
+decision-spec = tie.close (tie.spec (λ c κs. search) (λ c κs. search) returns)

@@ -1,6 +1,5 @@
 -- `decision::direction` meets its contract.
 use mathlib.Core.Path.{ap₂, _∙_}
-use borrow.Author.Needs.{needs}
 use Rattle.distance.specs.Direction.{directionOf}
 use Rattle.decision.proofs.direction.Statement.{statement}
 use Rattle.decision.proofs.direction.Tie as tie
@@ -10,4 +9,4 @@ returns c =
     let k = c .before in c .of-fault .ensures ∙ ap₂ (directionOf _) (k .before .negative-sequence .ensures .0) (k .negative-sequence2 .ensures .0)
 
 pub direction-spec : {M : Type 1} → statement M
-direction-spec = tie.close (tie.spec (λ c κs. search needs) (λ c κs. search needs) (λ c κs. search needs) returns)
+direction-spec = tie.close (tie.spec (λ c κs. search) (λ c κs. search) (λ c κs. search) returns)

@@ -51,5 +51,5 @@ pub findings-in-spec : {M : Type 1} → statement M
 findings-in-spec =
     tie.close
     (tie.spec
-    (λ c κs. search needs) (λ c κs. search needs) (λ c κs. search needs) (λ c κs. search needs)
-    (λ c κs. search needs) (λ c κs. search needs) asserting-bits-requires (λ c κs. asserting-bits-requires (c .before) κs) returns)
+    (λ c κs. search) (λ c κs. search needs) (λ c κs. search needs) (λ c κs. search) (λ c κs. (omega arith, search))
+    (λ c κs. search) asserting-bits-requires (λ c κs. asserting-bits-requires (c .before) κs) returns)

@@ -1,12 +1,11 @@
 -- `distance::direction::of_fault` meets its contract: the settings are in range, so every call may be made.
 use mathlib.Core.Path.{_≡_, sym, ap, _∙_}
-use borrow.Author.Needs.{needs}
 use denote.Ref.{now}
 use Rattle.whole.proofs.Machine.{back}
 use Rattle.whole.proofs.Size.{along, wider}
 use Rattle.plane.specs.declared.Phasor.{Phasor}
 use Rattle.plane.specs.Plane.{squared}
-use Rattle.plane.proofs.Bounds.{within-dot}
+use Rattle.plane.proofs.Bounds.{within-dot, inside-wider}
 use Rattle.settings.specs.Fields.{forwardLimit, reverseLimit}
 use Rattle.distance.specs.Constants.{angle}
 use Rattle.distance.specs.Direction.{torque, sideOf, directionOf}
@@ -59,5 +58,5 @@ pub of-fault-spec : {M : Type 1} → statement M
 of-fault-spec =
     tie.close
     (tie.spec
-    (λ c κs. search needs) (λ c κs. search needs) (λ c κs. search needs) (λ c κs. search needs)
-    (λ c κs. search needs) (λ c κs. search needs) side-requires returns returns-2)
+    (λ c κs. search) (λ c κs. search) (λ c κs. search) (λ c κs. search)
+    (λ c κs. search) (λ c κs. search inside-wider) side-requires returns returns-2)

@@ -1,9 +1,9 @@
 -- `distance::mho::loop_bits` meets its contract: each loop at the same reach, and its bit.
 use mathlib.Core.Path.{_∙_}
 use mathlib.Core.List.{[], _∷_}
-use borrow.Author.Needs.{needs}
 use mir.Facts.{toZ-ofZ}
 use Rattle.whole.specs.Bits.{bits}
+use Rattle.whole.proofs.Size.{along}
 use Rattle.distance.specs.Mho.{asserts, loopBits}
 use Rattle.distance.proofs.mho.loop_bits.Statement.{statement}
 use Rattle.distance.proofs.mho.loop_bits.Tie as tie
@@ -32,5 +32,5 @@ pub loop-bits-spec : {M : Type 1} → statement M
 loop-bits-spec =
     tie.close
     (tie.spec
-    (λ c κs. search needs) (λ c κs. search needs) (λ c κs. search needs) (λ c κs. search needs)
-    (λ c κs. search needs) (λ c κs. search needs) (λ c κs. search needs) (λ c κs. search needs) returns)
+    (λ c κs. search) (λ c κs. search (along, toZ-ofZ)) (λ c κs. search (along, toZ-ofZ)) (λ c κs. search (along, toZ-ofZ))
+    (λ c κs. search (along, toZ-ofZ)) (λ c κs. search (along, toZ-ofZ)) (λ c κs. search (along, toZ-ofZ)) (λ c κs. search) returns)

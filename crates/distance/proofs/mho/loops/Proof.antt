@@ -1,8 +1,8 @@
 -- `distance::mho::loops` meets its contract: the k product, P, aP and a²P are those of the definition.
 use mathlib.Core.Path.{_≡_, ap, _∙_}
-use borrow.Author.Needs.{needs}
 use denote.Ref.{now}
 use Rattle.plane.specs.declared.Phasor.{Phasor}
+use Rattle.plane.proofs.Bounds.{inside-wider}
 use Rattle.distance.specs.Sequence.{a, a², turned, positiveSequence}
 use Rattle.distance.specs.Constants.{compensation}
 use Rattle.distance.specs.Mho.{kProduct, sixOf, loopsOf}
@@ -38,5 +38,5 @@ pub loops-spec : {M : Type 1} → statement M
 loops-spec =
     tie.close
     (tie.spec
-    (λ c κs. search needs) (λ c κs. search needs) (λ c κs. search needs) (λ c κs. search needs)
-    (λ c κs. search needs) (λ c κs. search needs) (λ c κs. search needs) (λ c κs. search needs) returns)
+    (λ c κs. search) (λ c κs. search) (λ c κs. search) (λ c κs. search)
+    (λ c κs. search) (λ c κs. search) (λ c κs. search) (λ c κs. search inside-wider) returns)
