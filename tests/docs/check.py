@@ -2,8 +2,8 @@
 """Holds the header and the documents to what is in the tree.
 
 - include/gorsepetal.h declares the exported functions of crates/gorsepetal, and no others; its constants are those of the crates and of
-  their definitions, and no others; its version is the newest of docs/CHANGES.md. In its manual the tables of numbers and of fields and
-  the formulas of the rules have the source's figures, the limits those of the transform, the worked record follows from its own
+  their definitions, and no others; its version is the newest of docs/CHANGES.md. In its manual the tables of numbers, of fields, of the window,
+  of a decision and of the loops and the formulas of the rules have the source's figures, the limits those of the transform, the worked record follows from its own
   formulas, and the worked decision from the independent program.
 - In README.md, docs/ and tests/independent/README.md each path in backticks is there (`*` stands for any name), and each link leads to a
   file and a heading that are. In README.md and docs/, in `name` in `path`, or `a`, `b` in `path`, each name is declared in that file; below
@@ -43,6 +43,9 @@ def main():
         'lines of the header': manual.check_columns(),
         'numbers in the manual': manual.check_number_table(),
         'fields in the manual': manual.check_settings_table(),
+        'lines of the window in the manual': manual.check_window(),
+        'parts of a decision in the manual': manual.check_decision_table(),
+        'loops in the manual': manual.check_loops(),
         'formulas in the manual': manual.check_rules(),
         'limits in the manual': manual.check_limits(),
         'settings worked out in the manual': worked.check_example(),

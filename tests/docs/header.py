@@ -107,6 +107,17 @@ def directions():
     return {f'DIRECTION_{name.upper()}': int(value) for name, value in found}
 
 
+def six_loops():
+    """Each loop's name, V, I and Vp, by `sixOf`: E is the k product, and P, aP and a²P are those of document 01."""
+    polarised = {'p': 'P', 'ap': 'aP', 'a²p': 'a²P'}
+    made = r'(\w+) = (ground|phase)Loop ((?:\([vi] \.\w\) ?)+)(?:k )?(\S+);'
+    found = []
+    for loop, kind, members, p in re.findall(made, definition('crates/distance/specs/Mho.antt', 'sixOf')):
+        v, i = ([quantity.upper() + phase for quantity, phase in re.findall(r'\((\w) \.(\w)\)', members) if quantity == q] for q in 'vi')
+        found.append([loop.upper(), ' - '.join(v), ' - '.join(i) + ' + E' * (kind == 'ground'), '-j ' * (kind == 'phase') + polarised[p]])
+    return found
+
+
 # What stands at the head of each part of a decision, by the definition of its bytes.
 PARTS = {'trip (f .operating)': 'TRIP', 'f .operating': 'PHASES', 'f .asserting': 'LOOPS', 'directionNumber (f .direction)': 'DIRECTION'}
 

@@ -6,7 +6,7 @@ import re
 from itertools import groupby
 from pathlib import Path
 
-from header import HEADER, constants
+from header import HEADER, constants, decision_offsets, directions, six_loops, weights
 from tree import blank, fault, faults, read
 
 TABLE = Path('crates/settings/specs/Table.antt')
@@ -92,7 +92,48 @@ def check_settings_table():
     return len(rows)
 
 
+def check_window():
+    """The lengths of windows, and the indexes of the window that is drawn."""
+    text, frames = section('WINDOW'), constants('samples')['FRAMES']
+    rows = {name: [int(word) for word in rest.split()] for name, rest in re.findall(r'^\*\*   (N|numbers|bytes) +([\d ]+)$', text, flags=re.MULTILINE)}
+    numbers = [frames * (3 + 3 * ends) for ends in rows.get('N', [])]
+    if rows != {'N': [*range(2, 7)], 'numbers': numbers, 'bytes': [2 * n for n in numbers]}:
+        faults.append(f'{HEADER}: the lengths of windows are {rows}')
+    drawn = [[int(word) for word in line.split()] for line in re.findall(r'^\*\*   frame ([\d ]+)$', text, flags=re.MULTILINE)]
+    if [row[0] for row in drawn] != [0, 1, frames - 1] or any(row[1:] != [*range(12 * row[0], 12 * row[0] + 12)] for row in drawn):
+        faults.append(f'{HEADER}: the window that is drawn has {drawn}')
+    if f'{frames} frames in time order, the oldest first: {50 * frames} frames a second at 50 Hz, {60 * frames} at 60 Hz' not in plain('WINDOW'):
+        faults.append(f'{HEADER}: WINDOW does not say how many frames a second has')
+    return len(drawn) + len(rows)
+
+
+def check_decision_table():
+    """The table of a decision has its parts at their offsets, and the bits and numbers of the definitions."""
+    rows = re.findall(r'^\*\*   (\d+)(?: to (\d+))?  +(\S.*)$', section('DECISION'), flags=re.MULTILINE)
+    told = ' '.join(text for _, _, text in rows)
+    begins = [int(first) for first, _, _ in rows]
+    ends = [int(last or first) for first, last, _ in rows]
+    if sorted([*decision_offsets().values(), 4]) != begins or ends != [at - 1 for at in begins[1:]] + [31]:
+        faults.append(f'{HEADER}: the table of a decision has {[*zip(begins, ends)]}; the source has {decision_offsets()}')
+    phases = weights('crates/differential/specs/Differential.antt', 'operatingBits')
+    loops = weights('crates/distance/specs/Mho.antt', 'loopBits')
+    for words in (', '.join(f'{name.lower()}={bit}' for name, bit in phases.items()), ', '.join(f'{name} {bit}' for name, bit in loops.items()),
+                  ', '.join(f'{bit} {name.removeprefix("DIRECTION_").lower()}' for name, bit in directions().items())):
+        if words not in told:
+            faults.append(f'{HEADER}: the table of a decision does not say "{words}"')
+    return len(rows)
+
+
 # Rules
+
+
+def check_loops():
+    """V, I and Vp of each loop in the table, which has two loops a row."""
+    cell = r'([A-Z]{2}) +((?:V\w)(?: - V\w)?) +(I\w (?:-|\+) \w+) +(-j )?(P|aP|a2P)'
+    found = [[loop, v, i, (turned + p).replace('a2', 'a²')] for loop, v, i, turned, p in re.findall(cell, section('RULES'))]
+    if sorted(found) != sorted(six_loops()):
+        faults.append(f'{HEADER}: the loops are {sorted(found)}; the source has {sorted(six_loops())}')
+    return len(found)
 
 
 def cosines():

@@ -322,12 +322,7 @@ def check_decision():
     directions = [f'{name.removeprefix("DIRECTION_").lower()} {number}' for name, number in header.directions().items()]
     faults.extend(f'{PAGE}: the decision does not say "{words}"' for words in (', '.join(bits), ', '.join(directions)) if words not in said)
     compare('the bits of the loops', columns('loop', 'bit'), [[loop, str(bit)] for loop, bit in header.weights(MHO, 'loopBits').items()])
-    polarised = {'p': 'P', 'ap': 'aP', 'a²p': 'a²P'}
-    loops = []
-    made = r'(\w+) = (ground|phase)Loop ((?:\([vi] \.\w\) ?)+)(?:k )?(\S+);'
-    for loop, kind, members, p in re.findall(made, header.definition(MHO, 'sixOf')):
-        v, i = ([quantity.upper() + phase for quantity, phase in re.findall(r'\((\w) \.(\w)\)', members) if quantity == q] for q in 'vi')
-        loops.append([loop.upper(), ' - '.join(v), ' - '.join(i) + ' + E' * (kind == 'ground'), '-j ' * (kind == 'phase') + polarised[p]])
+    loops = header.six_loops()
     compare('the loops', columns('loop', 'V', 'I', 'Vp'), loops)
     return len(wanted) + len(loops)
 
