@@ -2,9 +2,9 @@
 """Holds the header and the documents to what is in the tree.
 
 - include/gorsepetal.h declares the exported functions of crates/gorsepetal, and no others; its constants are those of the crates and of
-  their definitions, and no others; its version is the newest of docs/CHANGES.md. In its manual the tables of numbers, of fields, of the window,
-  of a decision and of the loops and the formulas of the rules have the source's figures, the limits those of the transform, the worked record follows from its own
-  formulas, and the worked decision from the independent program.
+  their definitions, and no others; its version is the newest of docs/CHANGES.md. In its manual the tables of numbers, of fields, of the
+  window, of a decision and of the loops and the formulas of the rules have the source's figures, the limits those of the transform, the
+  worked record follows from its own formulas, and the worked decision from the independent program.
 - In README.md, docs/ and tests/independent/README.md each path in backticks is there (`*` stands for any name), and each link leads to a
   file and a heading that are. In README.md and docs/, in `name` in `path`, or `a`, `b` in `path`, each name is declared in that file; below
   a paragraph "Files:" each name is declared in one of its files, and each of these declares a name there. The commands that README.md shows
