@@ -1,9 +1,9 @@
--- Document 01, "Numbers given back": each answer's number and place.
+-- Document 01, "Numbers given back": each answer's number and place. 9 and 10 are of document 02, CR 1, "both at 0".
 use Prim.Native.Nat.{ℕ, _+_, _*_, _/_, _%_}
 use mathlib.Core.Bool.{Bool, cond}
 use lib.Dec.{eqb}
 use Rattle.answers.specs.declared.Answer.{Answer}
-use Rattle.answers.specs.declared.Answer.the-variants.{Done, NoSettings, OtherWindowLength, NoRoom, MissingSample, OtherEntryLength, OutOfRange, NothingPending, Differs, NoRelay}
+use Rattle.answers.specs.declared.Answer.the-variants.{Done, NoSettings, OtherWindowLength, NoRoom, MissingSample, OtherEntryLength, OutOfRange, NothingPending, Differs, OtherFrameLength, TooFewFrames, NoRelay}
 
 abbrev pub number : Answer → ℕ
 number Done = 0
@@ -15,6 +15,8 @@ number OtherEntryLength = 5
 number (OutOfRange at) = 6
 number NothingPending = 7
 number (Differs at) = 8
+number OtherFrameLength = 9
+number TooFewFrames = 10
 number NoRelay = 17
 
 -- The index or the offset where the table has one, else 0.
@@ -28,6 +30,8 @@ place OtherEntryLength = 0
 place (OutOfRange at) = at
 place NothingPending = 0
 place (Differs at) = at
+place OtherFrameLength = 0
+place TooFewFrames = 0
 place NoRelay = 0
 
 -- "C gets one number back: 256 times the place, plus the number given back."

@@ -1,4 +1,5 @@
-// The numbers given back (document 01, "Numbers given back"): each answer by name, and the one number that C gets.
+// The numbers given back (document 01, "Numbers given back"; 9 and 10 are of document 02, CR 1): each answer by name, and the one number
+// that C gets.
 ghost use mathlib.Core.Path.{_≡_};
 ghost use Prim.Native.Nat.{_<_};
 ghost use Rattle.answers.specs.Answers.{number, place, givenBack, numberIn, placeIn, isDone};
@@ -14,6 +15,8 @@ pub enum Answer {
     OutOfRange(u8),
     NothingPending,
     Differs(u8),
+    OtherFrameLength,
+    TooFewFrames,
     NoRelay,
 }
 
@@ -35,6 +38,10 @@ pub const NOTHING_PENDING: u64 = 7;
 
 pub const DIFFERS: u64 = 8;
 
+pub const OTHER_FRAME_LENGTH: u64 = 9;
+
+pub const TOO_FEW_FRAMES: u64 = 10;
+
 pub const NO_RELAY: u64 = 17;
 
 // The number of an answer.
@@ -51,6 +58,8 @@ fn number(a: Answer) -> u64
         Answer::OutOfRange(_) => OUT_OF_RANGE,
         Answer::NothingPending => NOTHING_PENDING,
         Answer::Differs(_) => DIFFERS,
+        Answer::OtherFrameLength => OTHER_FRAME_LENGTH,
+        Answer::TooFewFrames => TOO_FEW_FRAMES,
         Answer::NoRelay => NO_RELAY,
     }
 }
@@ -69,6 +78,8 @@ fn place(a: Answer) -> u16
         Answer::OutOfRange(at) => at as u16,
         Answer::NothingPending => 0,
         Answer::Differs(at) => at as u16,
+        Answer::OtherFrameLength => 0,
+        Answer::TooFewFrames => 0,
         Answer::NoRelay => 0,
     }
 }

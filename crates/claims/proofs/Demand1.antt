@@ -15,8 +15,9 @@ use Rattle.entry.specs.Log.{Entry, propose, confirm, Log, _▷_, Leads, from-fr
 use Rattle.entry.proofs.History.{in-force-said-twice, said-twice-in-force}
 use Rattle.gorsepetal.specs.State.{stateLength, settingsOf}
 use Rattle.gorsepetal.specs.Calls.{verdict, GoodRecord}
-use Rattle.claims.specs.Demand1.{Call, proposing, confirming, reading-back, deciding, Logged, freshRelay, next, afterCalls, Demand1, History, fresh, proposed, confirmed, other, OverHistories}
+use Rattle.claims.specs.Demand1.{Call, proposing, confirming, reading-back, deciding, feeding, Logged, freshRelay, next, afterCalls, Demand1, History, fresh, proposed, confirmed, other, OverHistories}
 use Rattle.claims.proofs.Relay.{Left, propose-left, confirm-left}
+use Rattle.claims.proofs.Unmoved.{feed-leaves-settings}
 
 -- zero bytes are no good record: the table refuses them at 0
 pub blank : verdict nothing ≡ OutOfRange 0
@@ -56,6 +57,8 @@ history-next r (proposing e) h = proposed h (record { given = refl; state = refl
 history-next r (confirming e) h = confirmed h (record { given = refl; state = refl })
 history-next r (reading-back out) h = h
 history-next r (deciding samples out) h = h
+history-next r (feeding f out) h =
+    let k = feed-leaves-settings (r .state) f out _ _ _ (led h .relay) (record { given = refl; state = refl; buffer = refl }) in other h (k .0) (k .1)
 
 history-after : (r : Logged) (cs : List Call) → History (r .log) (r .state) → History (afterCalls r cs .log) (afterCalls r cs .state)
 history-after r [] h = h

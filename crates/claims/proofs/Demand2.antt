@@ -12,7 +12,6 @@ use lib.Signed.{_<ℤ_}
 use Rattle.whole.specs.Exactly.{Exactly}
 use Rattle.whole.specs.Root.{floorRoot}
 use Rattle.claims.proofs.Bits.{Each, bits-tell, any-of}
-use Rattle.samples.specs.Window.{numbersOf}
 use Rattle.settings.specs.Fields.{ends, slope, pickup, reach, forwardLimit, reverseLimit}
 use Rattle.distance.specs.declared.direction.Direction.{Direction}
 use Rattle.distance.specs.declared.direction.Direction.the-variants as direction
@@ -26,10 +25,9 @@ use Rattle.distance.proofs.Laws.{mho-rule, forward-rule, reverse-rule}
 use Rattle.differential.specs.Differential.{comparison, magnitude, operates, operatingBits}
 use Rattle.differential.proofs.Rule.{operates-rule}
 use Rattle.decision.specs.Decision.{voltages, currentsOfEnd1, findings, isForward, decisionLength, decision}
-use Rattle.gorsepetal.specs.State.{settingsOf}
 use Rattle.gorsepetal.proofs.Good.{in-range}
 use Rattle.claims.specs.Demand2.{phaseCurrents, squareOf, restraintOf, phaseFacts, sixLoops, loopFacts, DirectionForward, wordAt, Tells, Demand2}
-use Rattle.claims.proofs.Decided.{in-force, at-front}
+use Rattle.claims.proofs.Decisions.{good, front}
 
 -- ---- 1 or 0, and the trip rule
 
@@ -153,8 +151,6 @@ module _ (s : List ℕ) (w : List ℤ) where
       }
 
 pub demand-2 : Demand2
-demand-2 s b out after c =
-    let r = settingsOf s .force in
-    let range = in-range r (in-force s b out after c) in
-    let front = at-front s b out after c in
-    (subst (Tells r (numbersOf b)) (sym front) (tells r (numbersOf b) (drop decisionLength out) (range .limits-order)), ap (drop decisionLength) front)
+demand-2 s w out d c =
+    let range = in-range s (good c) in
+    (subst (Tells s w) (sym (front c)) (tells s w (drop decisionLength out) (range .limits-order)), ap (drop decisionLength) (front c))

@@ -36,24 +36,24 @@ use Rattle.claims.specs.GivenBack as row
 use Rattle.claims.proofs.Relay.{sized}
 
 -- where a call gives back `answer`, and each row leads to it and it to its row
-both : {Row : ℕ → Type 0} {n : ℕ} (answer : ℕ) → n ≡ answer → Row answer → ((m : ℕ) → Row m → answer ≡ m) → (m : ℕ) → Exactly (n ≡ m) (Row m)
+pub both : {Row : ℕ → Type 0} {n : ℕ} (answer : ℕ) → n ≡ answer → Row answer → ((m : ℕ) → Row m → answer ≡ m) → (m : ℕ) → Exactly (n ≡ m) (Row m)
 both {Row} answer g r back m = (λ e. subst Row (sym g ∙ e) r, λ h. g ∙ back m h)
 
--- ---- the tests that the rows share
+-- ---- the tests that the rows share, those of feed in Frames among them
 
-relay : (s : List ℕ) → isRelay s ≡ true → length s ≡ stateLength
+pub relay : (s : List ℕ) → isRelay s ≡ true → length s ≡ stateLength
 relay s t = eqb-true (length s) stateLength t
 
-no-relay : (s : List ℕ) → isRelay s ≡ false → length s ≡ stateLength → ⊥
+pub no-relay : (s : List ℕ) → isRelay s ≡ false → length s ≡ stateLength → ⊥
 no-relay s t = eqb-false (length s) stateLength t
 
-accepted : (r : List ℕ) → isDone (verdict r) ≡ true → GoodRecord r
+pub accepted : (r : List ℕ) → isDone (verdict r) ≡ true → GoodRecord r
 accepted r t = done-is (verdict r) t
 
-not-accepted : (r : List ℕ) → isDone (verdict r) ≡ false → GoodRecord r → ⊥
+pub not-accepted : (r : List ℕ) → isDone (verdict r) ≡ false → GoodRecord r → ⊥
 not-accepted r t a = false≢true (sym t ∙ ap isDone a)
 
-refused : (r : List ℕ) → (GoodRecord r → ⊥) → isDone (verdict r) ≡ false
+pub refused : (r : List ℕ) → (GoodRecord r → ⊥) → isDone (verdict r) ≡ false
 refused r f = by-test (isDone (verdict r)) refl
   where
     by-test : (b : Bool) → isDone (verdict r) ≡ b → b ≡ false

@@ -1,11 +1,15 @@
 -- The proofs of the statements in specs/.
 pub mod Bits
 pub mod One
+pub mod Parts
 pub mod Relay
 pub mod GivenBack
+pub mod Frames
+pub mod Unmoved
 pub mod Demand1
 pub mod Settings
-pub mod Decided
+pub mod Feeding
+pub mod Decisions
 pub mod Demand2
 pub mod Demand3
 pub mod WhichRule

@@ -1,7 +1,7 @@
 -- No second result meets a claim: each says by one equation what the number is, and by one what is left.
 use native.Mathlib.Omega.{arith}
 use Rattle.answers.proofs.Numbers.{number-small}
-use Rattle.claims.specs.One.{OneProposed, OneConfirmed, OneReadBack, OneDecided, OneDecidedNumbers, NumberAndPlace}
+use Rattle.claims.specs.One.{OneProposed, OneConfirmed, OneReadBack, OneDecided, OneFed, OneDecidedNumbers, NumberAndPlace}
 
 pub one-proposed : OneProposed
 one-proposed s e n n′ after after′ p q = (cc, cc)
@@ -14,6 +14,9 @@ one-read-back s out n n′ after after′ p q = (cc, cc)
 
 pub one-decided : OneDecided
 one-decided s b out n n′ after after′ p q = (cc, cc)
+
+pub one-fed : OneFed
+one-fed s f out n n′ s₁ s₁′ out₁ out₁′ p q = (cc, cc, cc)
 
 pub one-decided-numbers : OneDecidedNumbers
 one-decided-numbers s w out a a′ after after′ p q = (cc, cc)

@@ -3,6 +3,9 @@ use Rattle.claims.specs.Reader.{Gorsepetal}
 use Rattle.gorsepetal.proofs.Contracts as contracts
 use Rattle.claims.proofs.One as one
 use Rattle.claims.proofs.GivenBack as given-back
+use Rattle.claims.proofs.Frames as frames
+use Rattle.claims.proofs.Unmoved as unmoved
+use Rattle.claims.proofs.Feeding as feeding
 use Rattle.claims.proofs.Demand1 as demand-1
 use Rattle.claims.proofs.Demand2 as demand-2
 use Rattle.claims.proofs.Demand3 as demand-3
@@ -25,20 +28,33 @@ gorsepetal = record {
   confirm-contract = contracts.confirm-contract;
   read-back-contract = contracts.read-back-contract;
   decide-contract = contracts.decide-contract;
+  feed-contract = contracts.feed-contract;
   decide-numbers-contract = contracts.decide-numbers-contract;
   window-bytes-contract = contracts.window-bytes-contract;
   one-proposed = one.one-proposed;
   one-confirmed = one.one-confirmed;
   one-read-back = one.one-read-back;
   one-decided = one.one-decided;
+  one-fed = one.one-fed;
   one-decided-numbers = one.one-decided-numbers;
   number-and-place = one.number-and-place;
   propose-answers = given-back.propose-answers;
   confirm-answers = given-back.confirm-answers;
   read-back-answers = given-back.read-back-answers;
   decide-answers = given-back.decide-answers;
+  feed-answers = frames.feed-answers;
   demand-1 = demand-1.demand-1;
   over-histories = demand-1.over-histories;
+  firmware-hears = feeding.firmware-hears;
+  hears-over-histories = feeding.hears-over-histories;
+  kept-exactly = frames.kept-exactly;
+  else-nothing-kept = frames.else-nothing-kept;
+  fed-as-decided = frames.fed-as-decided;
+  missing-in-frames = frames.missing-in-frames;
+  refused-feed = frames.refused-feed;
+  feed-leaves-settings = unmoved.feed-leaves-settings;
+  entries-leave-window = unmoved.entries-leave-window;
+  window-does-not-matter = unmoved.window-does-not-matter;
   demand-2 = demand-2.demand-2;
   demand-3-first = demand-3.demand-3-first;
   demand-3-second = demand-3.demand-3-second;
@@ -48,10 +64,12 @@ gorsepetal = record {
   through-is-quiet = demand-3.through-is-quiet;
   which-rule = which-rule.which-rule;
   which-rule-over-histories = which-rule.which-rule-over-histories;
+  which-rule-by-feeding = which-rule.which-rule-by-feeding;
   which-record = which-rule.which-record;
   which-record-over-histories = which-rule.which-record-over-histories;
   said-twice-reads-back = which-rule.said-twice-reads-back;
   said-twice-decides = which-rule.said-twice-decides;
+  said-twice-decides-by-feeding = which-rule.said-twice-decides-by-feeding;
   good-exactly = settings.good-exactly;
   fresh-has-nothing = settings.fresh-has-nothing;
   accepted-proposal = settings.accepted-proposal;

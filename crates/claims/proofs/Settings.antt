@@ -32,7 +32,7 @@ good-exactly r = (in-range r, λ h. ap ofCheck (in-ranges-good r h))
 
 pub fresh-has-nothing : FreshHasNothing
 fresh-has-nothing b out e n after =
-    (λ c. c .given ∙ rw blank, λ c. c .given ∙ rw blank, λ c l. c .given ∙ rw (eq-eqb (length e) 32 l, blank))
+    (λ c. c .given ∙ rw blank, λ c. c .given ∙ rw blank, λ s₁ c. c .given ∙ rw blank, λ c l. c .given ∙ rw (eq-eqb (length e) 32 l, blank))
 
 -- an entry answered 0 is in its row
 proposed-0 : (s e : List ℕ) (n : ℕ) → ProposeRow s e n → n ≡ 0 → (length s ≡ stateLength) × (length e ≡ recordLength) × GoodRecord e
@@ -41,7 +41,7 @@ proposed-0 s e n (row.ProposeRow.entry-length l h) z = absurd (omega arith)
 proposed-0 s e n (row.ProposeRow.out-of-range l h k f) z = absurd (omega arith)
 proposed-0 s e n (row.ProposeRow.done l h g) z = (l, h, g)
 
-confirmed-0 : (s e : List ℕ) (n : ℕ) → ConfirmRow s e n → n ≡ 0 → (length s ≡ stateLength) × GoodRecord (settingsOf s .pending) × (settingsOf s .pending ≡ e)
+pub confirmed-0 : (s e : List ℕ) (n : ℕ) → ConfirmRow s e n → n ≡ 0 → (length s ≡ stateLength) × GoodRecord (settingsOf s .pending) × (settingsOf s .pending ≡ e)
 confirmed-0 s e n (row.ConfirmRow.no-relay l) z = absurd (omega arith)
 confirmed-0 s e n (row.ConfirmRow.entry-length l h) z = absurd (omega arith)
 confirmed-0 s e n (row.ConfirmRow.nothing-pending l h f) z = absurd (omega arith)
@@ -125,6 +125,7 @@ no-relay-no-change s e out n after f =
       λ c. (c .given ∙ rw t, c .state ∙ rw t),
       λ c. (c .given ∙ rw t, c .buffer ∙ rw t),
       λ c. (c .given ∙ rw t, c .buffer ∙ rw t),
+      λ s₁ c. (c .given ∙ rw t, c .state ∙ rw t, c .buffer ∙ rw t),
     )
 
 pub refused-read-back : RefusedReadBack

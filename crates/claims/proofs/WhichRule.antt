@@ -1,16 +1,26 @@
 -- A decide answered 0, or a read-back, found a good record in force, and demand 1 says how that came to be.
-use mathlib.Core.Path.{refl, sym, ap, subst, _∙_}
-use Prim.Native.Nat.{ℕ}
-use lib.ListN.{take, drop}
-use Rattle.samples.specs.Window.{numbersOf}
+use mathlib.Core.Path.{_≡_, refl, sym, ap, subst, _∙_}
+use mathlib.Core.List.{List, [], _∷_, _++_}
+use mathlib.Core.Bool.{Bool, true, false}
+use Prim.Native.Nat.{ℕ, _*_}
+use native.Mathlib.Omega.{arith}
+use borrow.Author.Tests.{leb-true, leb-false}
+use lib.Dec.{leb}
+use lib.ListN.{length, take, drop}
+use Rattle.samples.specs.Window.{frames, windowLength, numbersOf}
+use Rattle.settings.specs.Fields.{ends}
 use Rattle.decision.specs.Decision.{decisionLength, decision}
 use Rattle.gorsepetal.specs.State.{settingsOf}
 use Rattle.gorsepetal.specs.Calls.{ReadBack, Decided}
 use Rattle.claims.specs.Demand1.{freshRelay, afterCalls}
-use Rattle.claims.specs.WhichRule.{WhichRule, WhichRuleOverHistories, WhichRecord, WhichRecordOverHistories, SaidTwiceReadsBack, SaidTwiceDecides}
+use Rattle.claims.specs.WhichRule.{ByARecordSaidTwice, WhichRule, WhichRuleOverHistories, WhichRuleByFeeding, WhichRecord, WhichRecordOverHistories, SaidTwiceReadsBack, SaidTwiceDecides, SaidTwiceDecidesByFeeding}
 use Rattle.claims.proofs.Demand1.{over-histories, history-of}
+use Rattle.claims.specs.Feeding.{framesAfter, oneAfterAnother}
+use Rattle.claims.specs.GivenBack.{Keepable}
 use Rattle.claims.specs.GivenBack as row
-use Rattle.claims.proofs.Decided.{relay, in-force, at-front}
+use Rattle.claims.proofs.Frames.{kept-exactly}
+use Rattle.claims.proofs.Feeding.{long, holds, has-kept, firmware-hears}
+use Rattle.claims.proofs.Decisions.{relay, in-force, at-front}
 use Rattle.claims.proofs.GivenBack.{read-back-answers, decide-answers}
 use Rattle.claims.proofs.Settings.{read-0, reads-what-is-in-force}
 
@@ -53,3 +63,29 @@ said-twice-decides l s r b out n after h said c fits room none =
     let zero = decide-answers s b out n after c 0 .1 (row.DecideRow.done (f .0) (rw force (f .2)) (rw force fits) room (rw force none)) in
     let k = at-front s b out after (subst (λ (m : ℕ). Decided s b out m after) zero c) in
     (zero, ap (take decisionLength) k ∙ ap (λ r. decision r (numbersOf b)) force)
+
+-- ---- by feeding: what decide gives for the newest 16 frames is what was given
+
+pub which-rule-by-feeding : WhichRuleByFeeding
+which-rule-by-feeding cs f out s₁ after all bytes c = by-test (leb frames (length fs)) refl
+  where
+    fs : List (List ℕ)
+    fs = framesAfter freshRelay [] cs ++ (f ∷ [])
+
+    by-test : (x : Bool) → leb frames (length fs) ≡ x → ByARecordSaidTwice (afterCalls freshRelay cs .log) (oneAfterAnother fs) out after
+    by-test true t = which-rule cs (oneAfterAnother fs) out after (firmware-hears cs f out 0 s₁ after all bytes c refl .decided (leb-true frames (length fs) t))
+    by-test false t = let ten = firmware-hears cs f out 0 s₁ after all bytes c refl .early (leb-false frames (length fs) t) .0 in absurd (omega arith)
+
+pub said-twice-decides-by-feeding : SaidTwiceDecidesByFeeding
+said-twice-decides-by-feeding cs r f out n s₁ after all bytes said c fits room many none =
+    let reached = afterCalls freshRelay cs in
+    let s = reached .state in
+    let kept = framesAfter freshRelay [] cs in
+    let fs = kept ++ (f ∷ []) in
+    let h = over-histories (reached .log) s r (history-of cs) .1 said in
+    let force = h .1 in
+    let k : Keepable s f out = record { relay = h .0; good = rw force (h .2); whole = rw force fits; room = room } in
+    let is-kept = kept-exactly s f out n s₁ after c .1 k in
+    let decided = firmware-hears cs f out n s₁ after all bytes c is-kept .decided many in
+    let size : length (oneAfterAnother fs) ≡ 2 * windowLength (ends r) = rw force at (long kept s f out n s₁ after (holds (has-kept cs all)) bytes c is-kept many) in
+    said-twice-decides (reached .log) s r (oneAfterAnother fs) out n after (history-of cs) said decided size room none

@@ -8,7 +8,7 @@ use Rattle.whole.specs.Exactly.{Exactly}
 use Rattle.answers.specs.Answers.{givenBack}
 use Rattle.entry.specs.Log.{propose, confirm, Log, start, _▷_, SaidTwice}
 use Rattle.gorsepetal.specs.State.{freshState, settingsOf, stateLength}
-use Rattle.gorsepetal.specs.Calls.{GoodRecord, proposeAnswer, proposeState, confirmAnswer, confirmState, Proposed, Confirmed}
+use Rattle.gorsepetal.specs.Calls.{GoodRecord, proposeAnswer, proposeState, confirmAnswer, confirmState, feedState, Proposed, Confirmed}
 
 -- A call, with the bytes that are lent beside the relay.
 pub data Call : Type 0 where
@@ -16,6 +16,7 @@ pub data Call : Type 0 where
   confirming : List ℕ → Call
   reading-back : (out : List ℕ) → Call
   deciding : (samples out : List ℕ) → Call
+  feeding : (frame out : List ℕ) → Call
 
 -- Where calls lead: the log of the entries, each with the number given back, and the relay's state.
 pub record Logged : Type 0 where
@@ -32,6 +33,7 @@ next r (confirming e) =
     record { log = r .log ▷ confirm e (givenBack (confirmAnswer (r .state) e)); state = confirmState (r .state) e }
 next r (reading-back out) = r
 next r (deciding samples out) = r
+next r (feeding frame out) = record { log = r .log; state = feedState (r .state) frame out }
 
 -- All calls of a list, the first one first.
 abbrev pub afterCalls : Logged → List Call → Logged
@@ -52,8 +54,8 @@ pub data History : Log → List ℕ → Type 0 where
   fresh : History start freshState
   proposed : {l : Log} {s e after : List ℕ} {n : ℕ} → History l s → Proposed s e n after → History (l ▷ propose e n) after
   confirmed : {l : Log} {s e after : List ℕ} {n : ℕ} → History l s → Confirmed s e n after → History (l ▷ confirm e n) after
-  -- a call that is no entry to the settings: read-back and decide, which by their contracts leave the state as it was, and any that changes
-  -- only other parts of it
+  -- a call that is no entry to the settings: read-back and decide, which by their contracts leave the state as it was, feed (`FeedLeavesSettings`),
+  -- and any that changes only other parts of it
   other : {l : Log} {s after : List ℕ} → History l s → length after ≡ stateLength → settingsOf after ≡ settingsOf s → History l after
 
 abbrev pub OverHistories : Type 0

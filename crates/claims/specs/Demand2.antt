@@ -1,4 +1,4 @@
--- Demand 2 (document 01, "Decision record"): every quantity in a decision equals its definition. In all definitions but the last s is the
+-- Demand 2 (document 01, "Decision record"): every quantity in a decision equals its definition. In all definitions s is the
 -- settings record in force, w the window's numbers, d what the buffer holds after the call, and phases a, b, c are 0, 1, 2.
 use Prim.Native.Nat.{ℕ, _+_, _*_, _<_}
 use mathlib.Core.Path.{_≡_}
@@ -11,7 +11,6 @@ use Rattle.whole.specs.Root.{floorRoot}
 use Rattle.claims.specs.Bits.{BitsTell, AnyOf}
 use Rattle.plane.specs.declared.Phasor.{Phasor}
 use Rattle.phasors.specs.Grid.{current}
-use Rattle.samples.specs.Window.{numbersOf}
 use Rattle.settings.specs.Fields.{ends, slope, pickup, reach}
 use Rattle.distance.specs.Sequence.{negativeSequence}
 use Rattle.distance.specs.Constants.{replica, compensation}
@@ -22,8 +21,7 @@ use Rattle.distance.specs.Laws.{WithinReach, PickupReached, BelowForward, Above
 use Rattle.differential.specs.Differential.{square, restraint, comparison}
 use Rattle.differential.specs.Laws.{OperatesBy}
 use Rattle.decision.specs.Decision.{decisionLength, rateOf, voltages, currentsOfEnd1}
-use Rattle.gorsepetal.specs.State.{settingsOf}
-use Rattle.gorsepetal.specs.Calls.{Decided}
+use Rattle.claims.specs.Decisions.{Decision}
 
 -- ---- what document 01 says of a window
 
@@ -100,8 +98,7 @@ pub record Tells (s : List ℕ) (w : List ℤ) (d : List ℕ) : Type 0 where
   -- 20 to 31: "floor of the root of 4096 s, for a, b, c"
   pub magnitudes : (p : ℕ) → p < 3 → wordAt d (20 + 4 * p) ≡ floorRoot (4096 * squareOf s w p)
 
--- Every decide answered 0 wrote that, by the record in force, and left the later bytes.
+-- Every decision tells that, by the record in force, and left the later bytes.
 abbrev pub Demand2 : Type 0
 Demand2 =
-    (s b out after : List ℕ) → Decided s b out 0 after
-    → Tells (settingsOf s .force) (numbersOf b) after × (drop decisionLength after ≡ drop decisionLength out)
+    (s : List ℕ) (w : List ℤ) (out d : List ℕ) → Decision s w out d → Tells s w d × (drop decisionLength d ≡ drop decisionLength out)

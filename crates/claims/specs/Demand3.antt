@@ -1,5 +1,5 @@
 -- Demand 3 (document 01, "Percentage differential") about the decision itself: bit p of its byte 1, for every window that was accepted, with
--- N, K and the pickup of the record in force. x gives "the unrounded sums A and B" of each end in the phase.
+-- N, K and the pickup of the record r in force. x gives "the unrounded sums A and B" of each end in the phase.
 use Prim.Native.Nat.{ℕ, _*_, _≤_, _<_}
 use mathlib.Core.Path.{_≡_}
 use mathlib.Core.Bool.{true}
@@ -11,13 +11,11 @@ use Rattle.claims.specs.Bits.{isSet}
 use Rattle.plane.specs.declared.Phasor.{Phasor}
 use Rattle.decision.specs.Decision.{rateOf}
 use Rattle.phasors.specs.Grid.{exactCurrent}
-use Rattle.samples.specs.Window.{numbersOf}
 use Rattle.settings.specs.Record.{negated}
 use Rattle.settings.specs.Fields.{ends, slope, pickup}
 use Rattle.settings.specs.Examples.{exampleRecord}
 use Rattle.differential.specs.Demand3.{NotBelow, Above, band}
-use Rattle.gorsepetal.specs.State.{settingsOf}
-use Rattle.gorsepetal.specs.Calls.{Decided}
+use Rattle.claims.specs.Decisions.{Decision}
 use Rattle.claims.specs.Demand2.{byte, squareOf}
 
 -- A and B of each end
@@ -27,22 +25,22 @@ sums r w p = exactCurrent (rateOf r) w (ends r) p
 -- "If a phase operates, 100(F + 1 + 196608Nm) > K L for every m."
 abbrev pub Demand3First : Type 0
 Demand3First =
-    (s b out after : List ℕ) (p : ℕ) → p < 3 → Decided s b out 0 after → let r = settingsOf s .force in
-    isSet p (byte after 1) ≡ true → NotBelow band (slope r) (ends r) (sums r (numbersOf b) p)
+    (r : List ℕ) (w : List ℤ) (out d : List ℕ) (p : ℕ) → p < 3 → Decision r w out d
+    → isSet p (byte d 1) ≡ true → NotBelow band (slope r) (ends r) (sums r w p)
 
 -- "If s >= pickup² and for some m, 100F >= K H + 19660800Nm, it operates." And so it trips.
 abbrev pub Demand3Second : Type 0
 Demand3Second =
-    (s b out after : List ℕ) (p : ℕ) → p < 3 → Decided s b out 0 after → let r = settingsOf s .force in
-    pickup r * pickup r ≤ squareOf r (numbersOf b) p → (m : ℕ) → 1 ≤ m → Above band (slope r) (ends r) (sums r (numbersOf b) p) m
-    → (isSet p (byte after 1) ≡ true) × (byte after 0 ≡ 1)
+    (r : List ℕ) (w : List ℤ) (out d : List ℕ) (p : ℕ) → p < 3 → Decision r w out d
+    → pickup r * pickup r ≤ squareOf r w p → (m : ℕ) → 1 ≤ m → Above band (slope r) (ends r) (sums r w p) m
+    → (isSet p (byte d 1) ≡ true) × (byte d 0 ≡ 1)
 
 -- So a trip has its reason: a phase whose bit is set, which the first half allows; or a fault ahead in which a loop asserts.
 abbrev pub TripHasReason : Type 0
 TripHasReason =
-    (s b out after : List ℕ) → Decided s b out 0 after → byte after 0 ≡ 1 → let r = settingsOf s .force in
-    ((p : ℕ) × (p < 3) × (isSet p (byte after 1) ≡ true) × NotBelow band (slope r) (ends r) (sums r (numbersOf b) p))
-    ⊎ ((byte after 3 ≡ 1) × (byte after 2 ≡ 0 → ⊥))
+    (r : List ℕ) (w : List ℤ) (out d : List ℕ) → Decision r w out d → byte d 0 ≡ 1
+    → ((p : ℕ) × (p < 3) × (isSet p (byte d 1) ≡ true) × NotBelow band (slope r) (ends r) (sums r w p))
+    ⊎ ((byte d 3 ≡ 1) × (byte d 2 ≡ 0 → ⊥))
 
 -- ---- neither half is empty, by two windows of two ends and the record of document 01's "Window program": slope 15, pickup 100
 
@@ -60,15 +58,12 @@ through = windowWith (pos 8000) (negated 8000)
 
 -- A relay that never trips contradicts the second half: of this window it says that there is a trip.
 abbrev pub FaultTrips : Type 0
-FaultTrips =
-    (s b out after : List ℕ) → settingsOf s .force ≡ exampleRecord → numbersOf b ≡ fault → Decided s b out 0 after → byte after 0 ≡ 1
+FaultTrips = (out d : List ℕ) → Decision exampleRecord fault out d → byte d 0 ≡ 1
 
 -- One in which every phase always operates contradicts the first: of this window it says that phase a does not.
 abbrev pub ThroughDoesNot : Type 0
-ThroughDoesNot =
-    (s b out after : List ℕ) → settingsOf s .force ≡ exampleRecord → numbersOf b ≡ through → Decided s b out 0 after → isSet 0 (byte after 1) ≡ true → ⊥
+ThroughDoesNot = (out d : List ℕ) → Decision exampleRecord through out d → isSet 0 (byte d 1) ≡ true → ⊥
 
 -- One that always trips, by whatever reason: in this window no phase operates and no loop asserts.
 abbrev pub ThroughIsQuiet : Type 0
-ThroughIsQuiet =
-    (s b out after : List ℕ) → settingsOf s .force ≡ exampleRecord → numbersOf b ≡ through → Decided s b out 0 after → byte after 0 ≡ 0
+ThroughIsQuiet = (out d : List ℕ) → Decision exampleRecord through out d → byte d 0 ≡ 0

@@ -5,7 +5,7 @@ use mathlib.Core.List.{List}
 use lib.IntN.{ℤ}
 use Rattle.answers.specs.declared.Answer.{Answer}
 use Rattle.answers.specs.Answers.{number, place, givenBack, numberIn, placeIn}
-use Rattle.gorsepetal.specs.Calls.{Proposed, Confirmed, ReadBack, Decided, DecidedNumbers}
+use Rattle.gorsepetal.specs.Calls.{Proposed, Confirmed, ReadBack, Decided, DecidedNumbers, Fed}
 
 -- A claim is about two lent slices, the number given back, and what the slice that may change holds after the call.
 abbrev pub Claim : Type 1
@@ -26,6 +26,12 @@ OneReadBack = OneResult ReadBack
 -- Decide is lent a third slice, the relay's state, which it does not change.
 abbrev pub OneDecided : Type 0
 OneDecided = (s : List ℕ) → OneResult (Decided s)
+
+-- Feed is lent three, and changes the relay's state and the buffer.
+abbrev pub OneFed : Type 0
+OneFed =
+    (s f out : List ℕ) (n n′ : ℕ) (s₁ s₁′ out₁ out₁′ : List ℕ) → Fed s f out n s₁ out₁ → Fed s f out n′ s₁′ out₁′
+    → (n ≡ n′) × (s₁ ≡ s₁′) × (out₁ ≡ out₁′)
 
 -- Inside, decide is lent numbers, and gives the answer itself.
 abbrev pub OneDecidedNumbers : Type 0

@@ -1,4 +1,4 @@
--- Document 01, "What a reader may rely on", as one statement: each field is a promise about the calls, by name. proofs/Reader.antt is its
+-- Document 01, "What a reader may rely on", with what document 02 adds, as one statement: each field is a promise about the calls, by name. proofs/Reader.antt is its
 -- witness. That a call ends and keeps to what it was lent is what it means to be proved; the window program's lines are proved in `report`.
 use Rattle.settings.specs.Examples.{AsFound, ByOffset}
 use Rattle.distance.specs.Laws.{MhoRule, LargerReach, NoPolarising, NoPositive, NeverBoth, ForwardRule, ReverseRule}
@@ -6,15 +6,18 @@ use Rattle.differential.specs.Laws.{OperatesRule, SmallerSlope, NoneAt100, Neve
 use Rattle.differential.specs.Named.{NamedWindow, OneCountIsFalse, BandIsUsed}
 use Rattle.differential.specs.PaperMill.{PaperMill}
 use Rattle.gorsepetal.specs.Calls.{Proposed, Confirmed, ReadBack}
-use Rattle.gorsepetal.proofs.Contracts.{ProposeContract, ConfirmContract, ReadBackContract, DecideContract, DecideNumbersContract, WindowBytesContract}
-use Rattle.claims.specs.One.{OneProposed, OneConfirmed, OneReadBack, OneDecided, OneDecidedNumbers, NumberAndPlace}
-use Rattle.claims.specs.GivenBack.{ProposeAnswers, ConfirmAnswers, ReadBackAnswers, DecideAnswers}
+use Rattle.gorsepetal.proofs.Contracts.{ProposeContract, ConfirmContract, ReadBackContract, DecideContract, FeedContract, DecideNumbersContract, WindowBytesContract}
+use Rattle.claims.specs.One.{OneProposed, OneConfirmed, OneReadBack, OneDecided, OneFed, OneDecidedNumbers, NumberAndPlace}
+use Rattle.claims.specs.GivenBack.{ProposeAnswers, ConfirmAnswers, ReadBackAnswers, DecideAnswers, FeedAnswers}
 use Rattle.claims.specs.Settings.{GoodExactly, FreshHasNothing, AcceptedProposal, AcceptedConfirmation, GoodComesIntoForce, ReadsWhatIsInForce, ConfirmedReadsBack, RefusedEntry, NoThirdEntry, DiffersAtFirst, MissingInOrder, RefusedReadBack, RefusedDecide, NoRelayNoChange}
 use Rattle.claims.specs.WrongRelays.{NotZeroed, NotHandedOut}
 use Rattle.claims.specs.Demand1.{Demand1, OverHistories}
+use Rattle.claims.specs.Frames.{KeptExactly, ElseNothingKept, FedAsDecided, MissingInFrames, RefusedFeed}
+use Rattle.claims.specs.Unmoved.{FeedLeavesSettings, EntriesLeaveWindow, WindowDoesNotMatter}
+use Rattle.claims.specs.Feeding.{FirmwareHears, HearsOverHistories}
 use Rattle.claims.specs.Demand2.{Demand2}
 use Rattle.claims.specs.Demand3.{Demand3First, Demand3Second, TripHasReason, FaultTrips, ThroughDoesNot, ThroughIsQuiet}
-use Rattle.claims.specs.WhichRule.{WhichRule, WhichRuleOverHistories, WhichRecord, WhichRecordOverHistories, SaidTwiceReadsBack, SaidTwiceDecides}
+use Rattle.claims.specs.WhichRule.{WhichRule, WhichRuleOverHistories, WhichRuleByFeeding, WhichRecord, WhichRecordOverHistories, SaidTwiceReadsBack, SaidTwiceDecides, SaidTwiceDecidesByFeeding}
 use Rattle.claims.specs.HandChecks.{HandChecks}
 use Rattle.claims.specs.Worked.{WorkedDecisions}
 use Rattle.claims.specs.Underneath.{RoundedOnce, RootsOnce}
@@ -25,6 +28,7 @@ pub record Gorsepetal : Type 0 where
   pub confirm-contract : ConfirmContract
   pub read-back-contract : ReadBackContract
   pub decide-contract : DecideContract
+  pub feed-contract : FeedContract
   pub decide-numbers-contract : DecideNumbersContract
   pub window-bytes-contract : WindowBytesContract
   -- no second result meets a claim
@@ -32,6 +36,7 @@ pub record Gorsepetal : Type 0 where
   pub one-confirmed : OneConfirmed
   pub one-read-back : OneReadBack
   pub one-decided : OneDecided
+  pub one-fed : OneFed
   pub one-decided-numbers : OneDecidedNumbers
   pub number-and-place : NumberAndPlace
   -- each number comes in its row's condition, and in no other
@@ -39,9 +44,22 @@ pub record Gorsepetal : Type 0 where
   pub confirm-answers : ConfirmAnswers
   pub read-back-answers : ReadBackAnswers
   pub decide-answers : DecideAnswers
+  pub feed-answers : FeedAnswers
   -- demand 1: in force exactly when said twice
   pub demand-1 : Demand1
   pub over-histories : OverHistories
+  -- frame by frame: what the firmware hears
+  pub firmware-hears : FirmwareHears
+  pub hears-over-histories : HearsOverHistories
+  pub kept-exactly : KeptExactly
+  pub else-nothing-kept : ElseNothingKept
+  pub fed-as-decided : FedAsDecided
+  pub missing-in-frames : MissingInFrames
+  pub refused-feed : RefusedFeed
+  -- and what feeding does not move
+  pub feed-leaves-settings : FeedLeavesSettings
+  pub entries-leave-window : EntriesLeaveWindow
+  pub window-does-not-matter : WindowDoesNotMatter
   -- demand 2: every quantity equals its definition
   pub demand-2 : Demand2
   -- demand 3: how far rounding can move the decision
@@ -54,10 +72,12 @@ pub record Gorsepetal : Type 0 where
   -- which rule had answered, and which record was read back
   pub which-rule : WhichRule
   pub which-rule-over-histories : WhichRuleOverHistories
+  pub which-rule-by-feeding : WhichRuleByFeeding
   pub which-record : WhichRecord
   pub which-record-over-histories : WhichRecordOverHistories
   pub said-twice-reads-back : SaidTwiceReadsBack
   pub said-twice-decides : SaidTwiceDecides
+  pub said-twice-decides-by-feeding : SaidTwiceDecidesByFeeding
   -- what the desk may rely on, call by call
   pub good-exactly : GoodExactly
   pub fresh-has-nothing : FreshHasNothing

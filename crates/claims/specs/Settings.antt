@@ -12,7 +12,7 @@ use Rattle.settings.specs.Fields.{Ranges, ends}
 use Rattle.entry.specs.Pair.{recordLength, nothing}
 use Rattle.gorsepetal.specs.State.{stateLength, freshState, settingsOf}
 use Rattle.claims.specs.One.{Claim}
-use Rattle.gorsepetal.specs.Calls.{GoodRecord, Proposed, Confirmed, ReadBack, Decided}
+use Rattle.gorsepetal.specs.Calls.{GoodRecord, Proposed, Confirmed, ReadBack, Decided, Fed}
 
 -- A record is good exactly if it has every field in its range and its spare bytes zero. (Propose accepts exactly the good records of 32
 -- bytes: `ProposeAnswers`.)
@@ -23,7 +23,7 @@ GoodExactly = (r : List ℕ) → Exactly (GoodRecord r) (Ranges r)
 abbrev pub FreshHasNothing : Type 0
 FreshHasNothing =
     (b out e : List ℕ) (n : ℕ) (after : List ℕ)
-    → (Decided freshState b out n after → n ≡ 1) × (ReadBack freshState out n after → n ≡ 1)
+    → (Decided freshState b out n after → n ≡ 1) × (ReadBack freshState out n after → n ≡ 1) × ((s₁ : List ℕ) → Fed freshState b out n s₁ after → n ≡ 1)
     × (Confirmed freshState e n after → length e ≡ recordLength → n ≡ 7)
 
 -- A proposal answered 0 makes the entry pending and leaves the record in force: the line stays protected until the confirmation.
@@ -91,3 +91,4 @@ NoRelayNoChange =
     (s e out : List ℕ) (n : ℕ) (after : List ℕ) → (length s ≡ stateLength → ⊥)
     → (Proposed s e n after → (n ≡ 17) × (after ≡ s)) × (Confirmed s e n after → (n ≡ 17) × (after ≡ s))
     × (ReadBack s out n after → (n ≡ 17) × (after ≡ out)) × (Decided s e out n after → (n ≡ 17) × (after ≡ out))
+    × ((s₁ : List ℕ) → Fed s e out n s₁ after → (n ≡ 17) × (s₁ ≡ s) × (after ≡ out))

@@ -2,18 +2,20 @@
 -- such a record.
 use Prim.Native.Nat.{ℕ, _*_, _≤_}
 use mathlib.Core.Path.{_≡_}
-use mathlib.Core.List.{List}
+use mathlib.Core.List.{List, [], _∷_, _++_}
 use lib.ListN.{length, take, drop}
-use Rattle.samples.specs.Window.{windowLength, numbersOf}
+use Rattle.samples.specs.Window.{frames, channels, windowLength, numbersOf}
 use Rattle.samples.specs.Order.{NoneMissing}
+use Rattle.stream.specs.Stored.{Every, Byte}
 use Rattle.settings.specs.Fields.{ends}
 use Rattle.entry.specs.Pair.{recordLength}
 use Rattle.entry.specs.Log.{Log, SaidTwice}
 use Rattle.decision.specs.Decision.{decisionLength, decision}
-use Rattle.gorsepetal.specs.Calls.{ReadBack, Decided}
+use Rattle.gorsepetal.specs.Calls.{ReadBack, Decided, Fed}
 use Rattle.claims.specs.Demand1.{Call, freshRelay, afterCalls, History}
+use Rattle.claims.specs.Feeding.{framesAfter, oneAfterAnother, AllBytes}
 
--- The buffer after a decide holds document 01's decision, on the window's bytes b, for a record that by the log l was proposed and in the next
+-- The buffer after the call holds document 01's decision, on the window's bytes b, for a record that by the log l was proposed and in the next
 -- entry confirmed with the same 32 bytes, both answered 0, with no later confirmation answered 0; and its later bytes stayed.
 pub record ByARecordSaidTwice (l : Log) (b out after : List ℕ) : Type 0 where
   pub rule : List ℕ
@@ -32,6 +34,12 @@ WhichRule =
 abbrev pub WhichRuleOverHistories : Type 0
 WhichRuleOverHistories =
     (l : Log) (s b out after : List ℕ) → History l s → Decided s b out 0 after → ByARecordSaidTwice l b out after
+
+-- And each feed answered 0 did so, on the newest 16 of the frames kept, one after another.
+abbrev pub WhichRuleByFeeding : Type 0
+WhichRuleByFeeding =
+    (cs : List Call) (f out s₁ after : List ℕ) → AllBytes cs → Every Byte f → Fed (afterCalls freshRelay cs .state) f out 0 s₁ after
+    → ByARecordSaidTwice (afterCalls freshRelay cs .log) (oneAfterAnother (framesAfter freshRelay [] cs ++ (f ∷ []))) out after
 
 -- The buffer after a read-back holds a record that by the log l was said twice, and its later bytes stayed.
 pub record HoldsARecordSaidTwice (l : Log) (out after : List ℕ) : Type 0 where
@@ -58,3 +66,12 @@ SaidTwiceDecides =
     (l : Log) (s r b out : List ℕ) (n : ℕ) (after : List ℕ) → History l s → SaidTwice r l → Decided s b out n after
     → length b ≡ 2 * windowLength (ends r) → decisionLength ≤ length out → NoneMissing (numbersOf b) (windowLength (ends r))
     → (n ≡ 0) × (take decisionLength after ≡ decision r (numbersOf b))
+
+-- The same by feeding: once 16 frames are kept and none of their samples is missing.
+abbrev pub SaidTwiceDecidesByFeeding : Type 0
+SaidTwiceDecidesByFeeding =
+    (cs : List Call) (r f out : List ℕ) (n : ℕ) (s₁ after : List ℕ) → AllBytes cs → Every Byte f → SaidTwice r (afterCalls freshRelay cs .log)
+    → Fed (afterCalls freshRelay cs .state) f out n s₁ after → length f ≡ 2 * channels (ends r) → decisionLength ≤ length out
+    → let fs = framesAfter freshRelay [] cs ++ (f ∷ []) in
+    frames ≤ length fs → NoneMissing (numbersOf (oneAfterAnother fs)) (windowLength (ends r))
+    → (n ≡ 0) × (take decisionLength after ≡ decision r (numbersOf (oneAfterAnother fs)))

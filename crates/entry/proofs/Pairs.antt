@@ -3,11 +3,11 @@ use Prim.Native.Nat.{ℕ, _+_, _≤_}
 use mathlib.Core.Path.{_≡_, sym, ap, ap₂, subst, _∙_}
 use mathlib.Core.List.{List, _++_, append-assoc}
 use native.Mathlib.Omega.{arith}
-use lib.ListN.{length, take, drop, length-append, length-take, length-drop}
+use lib.ListN.{length, take, drop, length-append, length-drop}
 use lib.Seq.{length-take-le, take-at, drop-at, drop-drop}
 use Rattle.lent.specs.Lent.{over}
 use Rattle.entry.specs.Pair.{Pair, pairAt, withPair}
-use Rattle.lent.proofs.Over.{over-over, over-same}
+use Rattle.lent.proofs.Over.{over-from, over-over, over-length, over-same}
 
 module _ (s : List ℕ) (at : ℕ) (room : at + 64 ≤ length s) where
   force-length : length (take 32 (drop at s)) ≡ 32
@@ -31,10 +31,7 @@ module _ (s : List ℕ) (at : ℕ) (room : at + 64 ≤ length s) where
 
     from-pair : drop at (withPair at s p) ≡ p .force ++ (p .pending ++ behind)
     unfolding behind
-    from-pair =
-        rw
-        (append-assoc (take at s) (p .force ++ p .pending) _, drop-at (take at s) _ at (length-take-le at s (omega arith)))
-        (append-assoc (p .force) (p .pending) _)
+    from-pair = over-from s at (p .force ++ p .pending) (omega arith) ∙ append-assoc (p .force) (p .pending) _
 
     pub pair-again : pairAt at (withPair at s p) ≡ p
     pair-again =
@@ -45,4 +42,4 @@ module _ (s : List ℕ) (at : ℕ) (room : at + 64 ≤ length s) where
 
     -- the state keeps its length
     pub with-pair-length : length (withPair at s p) ≡ length s
-    with-pair-length = simp (length-append, length-take, length-drop, hf, hp) (omega arith)
+    with-pair-length = over-length s at (p .force ++ p .pending) (simp (length-append, hf, hp) room)

@@ -1,8 +1,8 @@
 -- Each way out of the calls, on plain lists: what the tests on the way found decides the number given back and what is left.
 use Prim.Native.Nat.{ℕ, _*_, _≤_, _<_}
-use mathlib.Core.Path.{_≡_, refl, sym, _∙_, ap}
+use mathlib.Core.Path.{_≡_, refl, sym, _∙_, ap, ap₂}
 use mathlib.Core.List.{List}
-use mathlib.Core.Bool.{Bool, true, false, not}
+use mathlib.Core.Bool.{Bool, true, false, not, cond}
 use borrow.Author.Tests.{eq-eqb, ne-eqb, le-leb, lt-leb, not-true, not-false}
 use lib.IntN.{ℤ}
 use lib.ListN.{length}
@@ -16,8 +16,9 @@ use Rattle.settings.specs.Fields.{Ranges, ends}
 use Rattle.entry.specs.Entry as entry
 use Rattle.entry.proofs.Done.{by-answer, stored-done}
 use Rattle.decision.specs.Decide as decision
-use Rattle.gorsepetal.specs.State.{stateLength, settingsOf}
-use Rattle.gorsepetal.specs.Calls.{verdict, standing, inForce, windowBytes, Proposed, Confirmed, ReadBack, DecidedNumbers}
+use Rattle.feed.specs.Feed as feed
+use Rattle.gorsepetal.specs.State.{stateLength, windowOffset, settingsOf, emptied}
+use Rattle.gorsepetal.specs.Calls.{verdict, standing, confirmedPair, inForce, windowBytes, Proposed, Confirmed, ReadBack, DecidedNumbers, Fed}
 use Rattle.gorsepetal.proofs.Good.{in-range}
 
 module _ {s e after : List ℕ} {n : ℕ} where
@@ -34,10 +35,24 @@ module _ {s e after : List ℕ} {n : ℕ} where
         let q = by-answer (verdict e) e (rw f at p) in
         record { given = rw t (g ∙ ap givenBack (q .answer)); state = rw t (q .state) }
 
-    pub confirm-entry : v ≡ standing s → entry.Confirmed v 0 s e a after → Confirmed s e n after
-    confirm-entry f p =
-        let t = eq-eqb (length s) stateLength l in
-        record { given = rw (t, ← f) (g ∙ ap givenBack (p .answer)); state = rw (t, ← f) (p .state) }
+    module _ {b : Bool} {left : List ℕ} (f : v ≡ standing s) (p : entry.Confirmed v 0 s e a left) (d : b ≡ isDone a) where
+      -- what the window becomes goes by the answer
+      confirmed : (x : Bool) → b ≡ x → after ≡ cond x (emptied left) left → Confirmed s e n after
+      confirmed x y k =
+          let t = eq-eqb (length s) stateLength l in
+          let answered : a ≡ entry.confirmAnswer (standing s) (settingsOf s) e = rw (← f) (p .answer) in
+          let q : left ≡ confirmedPair s e = rw (← f) (p .state) in
+          let h : isDone (entry.confirmAnswer (standing s) (settingsOf s) e) ≡ x = ap isDone (sym answered) ∙ sym d ∙ y in
+          record {
+            given = rw t (g ∙ ap givenBack answered);
+            state = k ∙ ap (λ (z : List ℕ). cond x (emptied z) z) q ∙ sym (ap₂ (λ (i j : Bool). cond i (cond j (emptied (confirmedPair s e)) (confirmedPair s e)) s) t h);
+          }
+
+      pub confirm-done : not b ≡ false → after ≡ emptied left → Confirmed s e n after
+      confirm-done y k = confirmed true (not-false b y) k
+
+      pub confirm-refused : not b ≡ true → after ≡ left → Confirmed s e n after
+      confirm-refused r k = confirmed false (not-true b r) k
 
   -- `e` is the lent buffer here
   pub read-17 : (length s ≡ stateLength → ⊥) → n ≡ 17 → after ≡ e → ReadBack s e n after
@@ -85,6 +100,24 @@ module _ {s out after : List ℕ} {w : List ℤ} where
         let t = eq-eqb (length s) stateLength l in
         let h : isDone v ≡ true = sym d ∙ not-false b y in
         record { answer = rw (t, ← f, h) (p .answer); buffer = rw (t, ← f, h, ← p .answer) (p .buffer) }
+
+-- a frame
+module _ {s f out s₁ out₁ : List ℕ} {n : ℕ} where
+  pub feed-17 : (length s ≡ stateLength → ⊥) → n ≡ 17 → s₁ ≡ s → out₁ ≡ out → Fed s f out n s₁ out₁
+  feed-17 l g k o = let t = ne-eqb (length s) stateLength l in record { given = rw t g; state = rw t k; buffer = rw t o }
+
+  module _ {v : Answer} {b : Bool} (l : length s ≡ stateLength) (e : v ≡ inForce s) (d : b ≡ isDone v) where
+    pub feed-1 : not b ≡ true → n ≡ givenBack v → s₁ ≡ s → out₁ ≡ out → Fed s f out n s₁ out₁
+    feed-1 r g k o =
+        let t = eq-eqb (length s) stateLength l in
+        let h : isDone v ≡ false = sym d ∙ not-true b r in
+        record { given = rw (t, ← e, h, h) g; state = rw (t, ← e, h, h) k; buffer = rw (t, ← e, h, h, h) o }
+
+    pub feed-on : {a : Answer} → not b ≡ false → n ≡ givenBack a → feed.Fed windowOffset s f out a s₁ out₁ → Fed s f out n s₁ out₁
+    feed-on y g p =
+        let t = eq-eqb (length s) stateLength l in
+        let h : isDone v ≡ true = sym d ∙ not-false b y in
+        record { given = rw (t, ← e, h) (g ∙ ap givenBack (p .answer)); state = rw (t, ← e, h) (p .state); buffer = rw (t, ← e, h) (p .buffer) }
 
 -- how many bytes a window has
 module _ (s : List ℕ) where

@@ -8,11 +8,12 @@ use denote.Ref.{RefT, now}
 use lib.IntN.{ℤ}
 use Rattle.answers.specs.declared.Answer.{Answer}
 use Rattle.samples.specs.Window.{windowLength}
-use Rattle.gorsepetal.specs.Calls.{windowBytes, Unchanged, Proposed, Confirmed, ReadBack, DecidedNumbers, Decided}
+use Rattle.gorsepetal.specs.Calls.{windowBytes, Unchanged, Proposed, Confirmed, ReadBack, DecidedNumbers, Decided, Fed}
 use Rattle.gorsepetal.proofs.gorsepetal_propose.Reads as propose
 use Rattle.gorsepetal.proofs.gorsepetal_confirm.Reads as confirm
 use Rattle.gorsepetal.proofs.gorsepetal_read_back.Reads as read-back
 use Rattle.gorsepetal.proofs.gorsepetal_decide.Reads as decide
+use Rattle.gorsepetal.proofs.gorsepetal_feed.Reads as feed
 use Rattle.gorsepetal.proofs.decide.Reads as decide-numbers
 use Rattle.gorsepetal.proofs.window_bytes.Reads as window-bytes
 
@@ -58,6 +59,14 @@ DecideContract =
 
 pub decide-contract : DecideContract
 decide-contract κs s b out s′ b′ out′ n = the-claim
+
+abbrev pub FeedContract : Type 0
+FeedContract =
+    (κs : Lfts 3) (s f out s′ f′ out′ : RefT (List ℕ)) (n : ℕ)
+    → Promises (feed.Pre κs (s, (f, (out, tt)))) (feed.Post κs (s, (f, (out, tt))) n (s′, (f′, (out′, tt)))) (Fed (now s) (now f) (now out) n (now s′) (now out′) × Unchanged (now f) (now f′))
+
+pub feed-contract : FeedContract
+feed-contract κs s f out s′ f′ out′ n = the-claim
 
 -- ---- and inside: decide on a window of numbers, and how many bytes a window has, which the window program asks for
 

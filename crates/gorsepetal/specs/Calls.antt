@@ -1,4 +1,4 @@
--- Document 01, "Numbers given back": what each call answers and leaves, for every input, good or bad.
+-- Document 01, "Numbers given back", and document 02, CR 1: what each call answers and leaves, for every input, good or bad.
 use Prim.Native.Nat.{ℕ, _*_}
 use mathlib.Core.Path.{_≡_}
 use mathlib.Core.List.{List}
@@ -18,7 +18,8 @@ use Rattle.settings.specs.Fields.{ends}
 use Rattle.decision.specs.Decide.{windowAnswer, written}
 use Rattle.entry.specs.Pair.{recordLength}
 use Rattle.entry.specs.Entry as entry
-use Rattle.gorsepetal.specs.State.{stateLength, settingsOf, withSettings}
+use Rattle.feed.specs.Feed.{keeps, keptAnswer, newestFrames, withKept}
+use Rattle.gorsepetal.specs.State.{stateLength, windowOffset, settingsOf, withSettings, windowOf, emptied}
 
 -- Refusal 17: a state slice of another length. It stands before all others and changes nothing.
 abbrev pub isRelay : List ℕ → Bool
@@ -52,14 +53,18 @@ standing s = entry.standing (verdict (settingsOf s .pending))
 abbrev pub confirmAnswer : List ℕ → List ℕ → Answer
 confirmAnswer s e = cond (isRelay s) (entry.confirmAnswer (standing s) (settingsOf s) e) NoRelay
 
+-- The pair after it; and document 02, CR 1: "A confirmation answered 0 empties" the window.
+abbrev pub confirmedPair : List ℕ → List ℕ → List ℕ
+confirmedPair s e = withSettings s (entry.confirmed (standing s) (settingsOf s) e)
+
 abbrev pub confirmState : List ℕ → List ℕ → List ℕ
-confirmState s e = cond (isRelay s) (withSettings s (entry.confirmed (standing s) (settingsOf s) e)) s
+confirmState s e = cond (isRelay s) (ifDone (entry.confirmAnswer (standing s) (settingsOf s) e) (emptied (confirmedPair s e)) (confirmedPair s e)) s
 
 -- Refusal 1: no settings in force. It goes by the verdict on what is stored, too.
 abbrev pub inForce : List ℕ → Answer
 inForce s = entry.ofStored (verdict (settingsOf s .force)) NoSettings
 
--- Refusals 17 and 1, which stand first in read-back and in decide.
+-- Refusals 17 and 1, which stand first in read-back, in decide and in feed.
 abbrev pub ready : List ℕ → Answer
 ready s = cond (isRelay s) (inForce s) NoRelay
 
@@ -94,6 +99,25 @@ decideAnswer s fits w out = ifDone (ready s) (windowAnswer fits w out) (ready s)
 abbrev pub decideOut : List ℕ → Bool → List ℤ → List ℕ → List ℕ
 decideOut s fits w out = written (decideAnswer s fits w out) (settingsOf s .force) w out
 
+-- Document 02, CR 1, "Order 1, 9, 3, 10, 4. The first three keep nothing." Done where the frame f is kept.
+abbrev pub feedKeeps : List ℕ → List ℕ → List ℕ → Answer
+feedKeeps s f out = ifDone (ready s) (keeps (settingsOf s .force) f out) (ready s)
+
+-- "the newest 16 frames", this one among them
+abbrev pub newestOf : List ℕ → List ℕ → List ℤ
+newestOf s f = newestFrames (settingsOf s .force) (windowOf s) f
+
+abbrev pub feedAnswer : List ℕ → List ℕ → List ℕ → Answer
+feedAnswer s f out = ifDone (feedKeeps s f out) (keptAnswer (settingsOf s .force) (windowOf s) f) (feedKeeps s f out)
+
+-- "afterwards the firmware lends its window and finds it moved on by one frame"
+abbrev pub feedState : List ℕ → List ℕ → List ℕ → List ℕ
+feedState s f out = ifDone (feedKeeps s f out) (withKept (settingsOf s .force) windowOffset s f) s
+
+-- The decision on these 16 frames by the record in force, at the front of the lent buffer.
+abbrev pub feedOut : List ℕ → List ℕ → List ℕ → List ℕ
+feedOut s f out = written (feedAnswer s f out) (settingsOf s .force) (newestOf s f) out
+
 -- What a slice lent to be read alone holds after a call: what it held.
 abbrev pub Unchanged : {A : Type 0} → List A → List A → Type 0
 Unchanged before after = after ≡ before
@@ -120,3 +144,9 @@ pub record DecidedNumbers (s : List ℕ) (w : List ℤ) (out : List ℕ) (a : An
 pub record Decided (s b out : List ℕ) (n : ℕ) (after : List ℕ) : Type 0 where
   pub given : n ≡ givenBack (decideAnswer s (fitsBytes s b) (numbersOf b) out)
   pub buffer : after ≡ decideOut s (fitsBytes s b) (numbersOf b) out
+
+-- Feed changes two of the slices: the state, and the buffer.
+pub record Fed (s f out : List ℕ) (n : ℕ) (s₁ out₁ : List ℕ) : Type 0 where
+  pub given : n ≡ givenBack (feedAnswer s f out)
+  pub state : s₁ ≡ feedState s f out
+  pub buffer : out₁ ≡ feedOut s f out

@@ -1,5 +1,5 @@
 // What C calls. The relay's state is lent, and all zero bytes are a fresh relay: the main pair of records, the one in force and then
-// the pending one.
+// the pending one; and the window that frames are fed to.
 ghost use mathlib.Core.Path.{_≡_};
 ghost use Prim.Native.Nat.{_*_, _≤_};
 ghost use lib.ListN.{length};
@@ -7,12 +7,12 @@ ghost use Rattle.samples.specs.Window.{windowLength};
 ghost use Rattle.entry.specs.Pair.{recordLength};
 ghost use Rattle.entry.specs.Entry.{proposeAnswer, ofStored};
 ghost use Rattle.gorsepetal.specs.State.{stateLength};
-ghost use Rattle.gorsepetal.specs.Calls.{verdict, inForce, windowBytes, Unchanged, Proposed, Confirmed, ReadBack, DecidedNumbers, Decided};
+ghost use Rattle.gorsepetal.specs.Calls.{verdict, inForce, windowBytes, Unchanged, Proposed, Confirmed, ReadBack, DecidedNumbers, Decided, Fed};
 use answers::Answer;
 use settings::Checked;
 
 // The lengths that a caller needs. The state, a settings record and a decision, in bytes:
-pub const STATE_LENGTH: usize = 64;
+pub const STATE_LENGTH: usize = WINDOW + stream::STORED_LENGTH;
 
 pub const RECORD_LENGTH: usize = entry::RECORD_LENGTH;
 
@@ -21,12 +21,14 @@ pub const DECISION_LENGTH: usize = decision::LENGTH;
 // and the longest window, in numbers.
 pub const LONGEST_WINDOW_NUMBERS: usize = samples::LONGEST;
 
-// Where the main pair lies in the state: the record in force, the pending one, and what comes after.
+// Where each part lies in the state: the main pair, with the record in force and the pending one, and then the window.
 const MAIN: usize = 0;
 
 const PENDING: usize = MAIN + RECORD_LENGTH;
 
 const MAIN_END: usize = PENDING + RECORD_LENGTH;
+
+const WINDOW: usize = MAIN_END;
 
 // What propose answers to an entry. The length is tested here because the check wants 32 bytes; `entry::propose`, which takes any
 // verdict, tests it too.
@@ -73,7 +75,7 @@ pub extern "C" fn gorsepetal_propose(state: &mut [u8], entry: &[u8]) -> u64
     answers::given_back(entry::propose(state, MAIN, entry, propose_answer(entry)))
 }
 
-// A second entry: the pending record comes into force if this one is the same 32 bytes.
+// A second entry: the pending record comes into force if this one is the same 32 bytes, and the window is empty then.
 #[no_mangle]
 pub extern "C" fn gorsepetal_confirm(state: &mut [u8], entry: &[u8]) -> u64
     ensures { λ r. ⌜ Confirmed (now (state .entry)) (now (entry .entry)) r (now (state .exit)) × Unchanged (now (entry .entry)) (now (entry .exit)) ⌝ }
@@ -82,7 +84,12 @@ pub extern "C" fn gorsepetal_confirm(state: &mut [u8], entry: &[u8]) -> u64
         return answers::given_back(Answer::NoRelay);
     }
     let standing = of_stored(&state[PENDING..MAIN_END], Answer::NothingPending);
-    answers::given_back(entry::confirm(state, MAIN, entry, standing))
+    let answer = entry::confirm(state, MAIN, entry, standing);
+    if !answers::is_done(answer) {
+        return answers::given_back(answer);
+    }
+    stream::clear(state, WINDOW);
+    answers::given_back(answer)
 }
 
 // The record in force, at the front of a lent buffer.
@@ -141,4 +148,19 @@ pub extern "C" fn gorsepetal_decide(state: &[u8], samples: &[u8], out: &mut [u8]
     let mut numbers = [0i16; LONGEST_WINDOW_NUMBERS];
     samples::numbers(samples, &mut numbers);
     answers::given_back(decide(state, &numbers[0..n], out))
+}
+
+// One frame of big-endian bytes: it is kept in the window, and the newest 16 frames are decided on.
+#[no_mangle]
+pub extern "C" fn gorsepetal_feed(state: &mut [u8], frame: &[u8], out: &mut [u8]) -> u64
+    ensures { λ r. ⌜ Fed (now (state .entry)) (now (frame .entry)) (now (out .entry)) r (now (state .exit)) (now (out .exit)) × Unchanged (now (frame .entry)) (now (frame .exit)) ⌝ }
+{
+    if state.len() != STATE_LENGTH {
+        return answers::given_back(Answer::NoRelay);
+    }
+    let in_force = in_force(state);
+    if !answers::is_done(in_force) {
+        return answers::given_back(in_force);
+    }
+    answers::given_back(feed::feed(state, WINDOW, frame, out))
 }

@@ -1,4 +1,5 @@
--- Laws of what is written over a list: a second part right behind the first, what stood there already, the part read again.
+-- Laws of what is written over a list: what stands before it, from it on and behind it, a second part right behind the first, what stood there
+-- already, the part read again.
 use Prim.Native.Nat.{ℕ, _+_, _≤_}
 use mathlib.Core.Path.{_≡_, _∙_, ap}
 use mathlib.Core.List.{List, _++_, append-assoc}
@@ -13,6 +14,17 @@ module _ (d : List ℕ) (at : ℕ) (x : List ℕ) (room : at ≤ length d) where
   front-length : length (take at d ++ x) ≡ at + length x
   front-length = length-append (take at d) x ∙ ap (λ (n : ℕ). n + length x) (length-take-le at d room)
 
+  whole : over d at x ≡ take at d ++ (x ++ drop (at + length x) d)
+  whole = append-assoc (take at d) x (drop (at + length x) d)
+
+  -- before the part nothing changes
+  pub over-before : take at (over d at x) ≡ take at d
+  over-before = ap (take at) whole ∙ take-at (take at d) (x ++ drop (at + length x) d) at (length-take-le at d room)
+
+  -- from its place on stands the part, and then what stood there
+  pub over-from : drop at (over d at x) ≡ x ++ drop (at + length x) d
+  over-from = ap (drop at) whole ∙ drop-at (take at d) (x ++ drop (at + length x) d) at (length-take-le at d room)
+
   -- behind the part nothing changes
   pub over-behind : (n : ℕ) → drop (at + length x + n) (over d at x) ≡ drop (at + length x + n) d
   over-behind n = rw (← front-length, drop-append-add, front-length) (drop-drop n (at + length x) d)
@@ -23,10 +35,11 @@ module _ (d : List ℕ) (at : ℕ) (x : List ℕ) (room : at ≤ length d) where
 
   -- the part, read again
   pub over-read : take (length x) (drop at (over d at x)) ≡ x
-  over-read =
-      rw
-      (append-assoc (take at d) x (drop (at + length x) d), drop-at (take at d) (x ++ drop (at + length x) d) at (length-take-le at d room))
-      (take-append-seam x (drop (at + length x) d))
+  over-read = ap (take (length x)) over-from ∙ take-append-seam x (drop (at + length x) d)
+
+-- a part that has room leaves the length
+pub over-length : (d : List ℕ) (at : ℕ) (x : List ℕ) → at + length x ≤ length d → length (over d at x) ≡ length d
+over-length d at x room = simp (length-append, length-drop, length-take-le at d (omega arith)) (omega arith)
 
 -- what stands there already changes nothing
 pub over-same : (d : List ℕ) (at n : ℕ) → at + n ≤ length d → over d at (take n (drop at d)) ≡ d

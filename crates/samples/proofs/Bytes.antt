@@ -1,7 +1,7 @@
 -- The numbers of bytes: how many they are, when they are as many as a window has, each of them, and a list filled with them as the code does.
-use Prim.Native.Nat.{ℕ, zero, suc, _+_, _*_, _/_, _<_, _≤_}
-use mathlib.Core.Path.{_≡_, refl, sym, ap₂, _∙_}
-use mathlib.Core.List.{List, [], _∷_}
+use Prim.Native.Nat.{ℕ, zero, suc, _+_, _*_, _/_, _-_, _<_, _≤_}
+use mathlib.Core.Path.{_≡_, refl, sym, ap, ap₂, _∙_}
+use mathlib.Core.List.{List, [], _∷_, _++_}
 use mathlib.Core.Bool.{Bool, true, false, cond, _&&_}
 use native.Mathlib.Nat.{not-suc-le-zero, ne-of-lt}
 use native.Mathlib.Numerals.{add-one}
@@ -10,8 +10,8 @@ use borrow.Author.Count.{below-more}
 use borrow.Author.Tests.{eq-eqb, ne-eqb, le-leb, lt-leb, eqb-true, eqb-false}
 use lib.Dec.{eqb, leb}
 use lib.IntN.{ℤ, pos}
-use lib.ListN.{length, take, set, getD}
-use lib.Seq.{take-suc, take-suc-set, take-all, getD-set-same, getD-set-other}
+use lib.ListN.{length, take, drop, set, getD}
+use lib.Seq.{take-suc, take-suc-set, take-all, drop-nil, getD-set-same, getD-set-other}
 use Rattle.whole.specs.TwosComplement.{signed}
 use Rattle.samples.specs.Window.{windowLength, numbersOf, HoldsNumbers}
 use Rattle.samples.specs.Sizes.{count}
@@ -71,6 +71,21 @@ number-at (x ∷ y ∷ b) (suc i) h =
     let high : suc (suc (2 * i)) ≡ 2 * suc i = omega arith in
     let low : suc (suc (2 * i + 1)) ≡ 2 * suc i + 1 = omega arith in
     number-at b i (omega arith) ∙ ap₂ (λ (m n : ℕ). signed (getD (x ∷ y ∷ b) m 0 * 256 + getD (x ∷ y ∷ b) n 0)) high low
+
+-- without the first numbers
+pub numbers-drop : (n : ℕ) (b : List ℕ) → numbersOf (drop (2 * n) b) ≡ drop n (numbersOf b)
+unfolding numbersOf
+numbers-drop zero b = refl
+numbers-drop (suc n) [] = ap numbersOf (drop-nil (2 * suc n))
+numbers-drop (suc n) (x ∷ []) = let two : 2 * suc n ≡ suc (suc (2 * n)) = omega arith in rw two (ap numbersOf (drop-nil (suc (2 * n))))
+numbers-drop (suc n) (x ∷ y ∷ b) = let two : 2 * suc n ≡ suc (suc (2 * n)) = omega arith in rw two (numbers-drop n b)
+
+-- of bytes one after another, where the first hold m numbers
+pub numbers-append : (m : ℕ) (a b : List ℕ) → HoldsNumbers m a → numbersOf (a ++ b) ≡ numbersOf a ++ numbersOf b
+unfolding numbersOf
+numbers-append m [] b h = refl
+numbers-append m (x ∷ []) b h = absurd (omega arith)
+numbers-append m (x ∷ y ∷ a) b h = ap (λ (l : List ℤ). signed (x * 256 + y) ∷ l) (numbers-append (m - 1) a b (omega arith))
 
 -- bytes so read at the front of a list, and two more
 pub low-first-more :

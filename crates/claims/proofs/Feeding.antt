@@ -1,0 +1,221 @@
+-- What the firmware hears: the window in the relay's state is the one that the frames kept since it was empty were fed to, so the 16 frames that
+-- are decided on are the newest of them.
+use Prim.Native.Nat.{ℕ, zero, suc, _+_, _*_, _-_, _≤_, min}
+use mathlib.Core.Path.{_≡_, refl, sym, ap, subst, _∙_}
+use mathlib.Core.List.{List, [], _∷_, _++_, flatten, map}
+use mathlib.Core.Bool.{Bool, true, false, cond, false≢true}
+use native.Mathlib.Omega.{arith}
+use borrow.Author.Tests.{eqb-true, eqb-false}
+use lib.Dec.{eqb}
+use lib.IntN.{ℤ}
+use lib.ListN.{length, take, drop, replicate, length-append, length-drop}
+use Rattle.answers.specs.Answers.{givenBack}
+use Rattle.samples.specs.Window.{frames, numbersOf}
+use Rattle.samples.proofs.Bytes.{held, numbers-append}
+use Rattle.stream.specs.declared.Window.{Window}
+use Rattle.stream.specs.Window.{movedOn, none, HasRoom}
+use Rattle.stream.specs.Stored.{storedLength, Every, Byte, Sound}
+use Rattle.stream.specs.History.{after, Frames, newest, Remembers}
+use Rattle.stream.proofs.Every.{every-append, every-drop}
+use Rattle.stream.proofs.Bytes.{numbers-samples}
+use Rattle.stream.proofs.Storing.{none-sound, fresh-none, kept-sound, kept-read}
+use Rattle.stream.proofs.History.{fed, after-more}
+use Rattle.feed.specs.Feed.{numbersOfFrame, withFrame, withKept}
+use Rattle.gorsepetal.specs.State.{stateLength, freshState, windowOffset, settingsOf, windowOf}
+use Rattle.gorsepetal.specs.Calls.{confirmAnswer, lengthInForce, newestOf, feedAnswer, Fed}
+use Rattle.claims.specs.GivenBack.{Keepable}
+use Rattle.claims.specs.Frames.{isKept, IsKept}
+use Rattle.claims.specs.Demand1.{Call, proposing, confirming, reading-back, deciding, feeding, Logged, freshRelay, next, afterCalls}
+use Rattle.claims.specs.Feeding.{framesWith, framesAfter, oneAfterAnother, FedBytes, AllBytes, Heard, FirmwareHears, HasKept, fresh, proposed, confirmed, refused, kept, not-kept, other, HearsOverHistories}
+use Rattle.claims.proofs.Parts.{same-window}
+use Rattle.claims.proofs.Relay.{propose-left, confirm-left}
+use Rattle.claims.proofs.Settings.{refused-confirmation}
+use Rattle.claims.proofs.Frames.{keeps-done, few, early-answer, kept-exactly, else-nothing-kept, refused-feed, fed-as-decided}
+use Rattle.claims.proofs.Unmoved.{feed-leaves-settings, entries-leave-window}
+
+-- ---- lists of frames
+
+abbrev pub numbers : List (List ℕ) → List (List ℤ)
+numbers fs = map numbersOf fs
+
+-- every frame has m numbers, two bytes each
+abbrev pub Whole : ℕ → List (List ℕ) → Type 0
+Whole m fs = Every (λ (f : List ℕ). length f ≡ 2 * m) fs
+
+numbers-more : (fs : List (List ℕ)) (f : List ℕ) → numbers (fs ++ (f ∷ [])) ≡ numbers fs ++ (numbersOf f ∷ [])
+numbers-more [] f = refl
+numbers-more (g ∷ fs) f = ap (λ (l : List (List ℤ)). numbersOf g ∷ l) (numbers-more fs f)
+
+numbers-count : (fs : List (List ℕ)) → length (numbers fs) ≡ length fs
+numbers-count [] = refl
+numbers-count (f ∷ fs) = ap suc (numbers-count fs)
+
+numbers-without : (d : ℕ) (fs : List (List ℕ)) → drop d (numbers fs) ≡ numbers (drop d fs)
+numbers-without zero fs = refl
+numbers-without (suc d) [] = refl
+numbers-without (suc d) (f ∷ fs) = numbers-without d fs
+
+numbers-whole : (m : ℕ) (fs : List (List ℕ)) → Whole m fs → Frames m (numbers fs)
+numbers-whole m [] h = tt
+numbers-whole m (f ∷ fs) h = (held m f (h .0), numbers-whole m fs (h .1))
+
+-- the numbers of frames one after another
+flat-numbers : (m : ℕ) (fs : List (List ℕ)) → Whole m fs → numbersOf (flatten fs) ≡ flatten (numbers fs)
+unfolding flatten numbersOf
+flat-numbers m [] h = refl
+flat-numbers m (f ∷ fs) h = numbers-append m f (flatten fs) (h .0) ∙ ap (λ (l : List ℤ). numbersOf f ++ l) (flat-numbers m fs (h .1))
+
+flat-length : (m : ℕ) (fs : List (List ℕ)) → Whole m fs → length (flatten fs) ≡ 2 * (length fs * m)
+unfolding flatten
+flat-length m [] h = let none : 0 * m ≡ 0 = omega arith in omega (arith, none)
+flat-length m (f ∷ fs) h =
+    let times : suc (length fs) * m ≡ m + length fs * m = omega arith in
+    length-append f (flatten fs) ∙ omega (arith, h .0, flat-length m fs (h .1), times)
+
+-- ---- what the state holds
+
+pub record Holds (fs : List (List ℕ)) (s : List ℕ) : Type 0 where
+  pub relay : length s ≡ stateLength
+  pub whole : Whole (numbersOfFrame (settingsOf s .force)) fs
+  pub sound : Sound (windowOf s)
+  pub window : windowOf s ≡ after frames (numbersOfFrame (settingsOf s .force)) none (numbers fs)
+
+-- a call that leaves the window and the record in force
+stays :
+    {fs : List (List ℕ)} {s t : List ℕ} → Holds fs s → length t ≡ stateLength → windowOf t ≡ windowOf s → settingsOf t .force ≡ settingsOf s .force
+    → Holds fs t
+stays {fs} {s} {t} h l w r =
+    record {
+      relay = l;
+      whole = subst (λ (x : List ℕ). Whole (numbersOfFrame x) fs) (sym r) (h .whole);
+      sound = subst Sound (sym w) (h .sound);
+      window = w ∙ h .window ∙ ap (λ (x : List ℕ). after frames (numbersOfFrame x) none (numbers fs)) (sym r);
+    }
+
+-- zero bytes are an empty window
+empty : (s : List ℕ) → length s ≡ stateLength → drop 64 s ≡ replicate storedLength 0 → Holds [] s
+unfolding after
+empty s l zeros =
+    let none-is : windowOf s ≡ none = fresh-none s 64 (omega arith) (ap (take 674) zeros) in
+    record { relay = l; whole = tt; sound = rw none-is none-sound; window = none-is }
+
+-- one frame more
+module _ (fs : List (List ℕ)) (s f out : List ℕ) (n : ℕ) (s₁ out₁ : List ℕ) (h : Holds fs s) (bytes : Every Byte f) (c : Fed s f out n s₁ out₁) (is-kept : IsKept n) where
+  abbrev r : List ℕ
+  r = settingsOf s .force
+
+  abbrev m : ℕ
+  m = numbersOfFrame r
+
+  keep : Keepable s f out
+  keep = kept-exactly s f out n s₁ out₁ c .0 is-kept
+
+  with-frame : withFrame r (windowOf s) f ≡ after frames m none (numbers (fs ++ (f ∷ [])))
+  with-frame =
+      ap (λ (w : Window). movedOn frames m w (numbersOf f)) (h .window) ∙ sym (after-more frames m none (numbers fs) (numbersOf f))
+      ∙ ap (after frames m none) (sym (numbers-more fs f))
+
+  all-whole : Whole m (fs ++ (f ∷ []))
+  all-whole = every-append (λ (f : List ℕ). length f ≡ 2 * m) fs (f ∷ []) (h .whole) (keep .whole, tt)
+
+  one-more : Holds (fs ++ (f ∷ [])) s₁
+  one-more =
+      let l = h .relay in
+      let frame = held m f (keep .whole) in
+      let samples = numbers-samples f bytes in
+      let rest = feed-leaves-settings s f out n s₁ out₁ l c in
+      let force : settingsOf s₁ .force ≡ r = ap (λ p. p .force) (rest .1) in
+      let state : s₁ ≡ withKept r windowOffset s f = c .state ∙ rw (keeps-done s f out keep) in
+      let fits : HasRoom frames m = (omega arith, omega (arith, few s f out keep)) in
+      let read = kept-read s 64 frames m (numbersOf f) (h .sound) (omega arith) fits frame samples in
+      let now : windowOf s₁ ≡ withFrame r (windowOf s) f = ap windowOf state ∙ read in
+      record {
+        relay = rest .0;
+        whole = subst (λ (x : List ℕ). Whole (numbersOfFrame x) (fs ++ (f ∷ []))) (sym force) all-whole;
+        sound = subst Sound (sym now) (kept-sound s 64 frames m (numbersOf f) (h .sound) (omega arith) fits frame samples);
+        window = now ∙ with-frame ∙ ap (λ (x : List ℕ). after frames (numbersOfFrame x) none (numbers (fs ++ (f ∷ [])))) (sym force);
+      }
+
+  -- what it is answered
+  remembers : Remembers frames m (numbers (fs ++ (f ∷ []))) (after frames m none (numbers (fs ++ (f ∷ []))))
+  remembers = fed frames m none (numbers (fs ++ (f ∷ []))) (omega (arith, few s f out keep)) (numbers-whole m (fs ++ (f ∷ [])) all-whole) refl
+
+  counts : withFrame r (windowOf s) f .count ≡ min frames (length (fs ++ (f ∷ [])))
+  counts = ap (λ (w : Window). w .count) with-frame ∙ remembers .counts ∙ ap (min frames) (numbers-count (fs ++ (f ∷ [])))
+
+  abbrev gs : List (List ℕ)
+  gs = newest frames (fs ++ (f ∷ []))
+
+  newest-whole : Whole m gs
+  newest-whole = every-drop (λ (f : List ℕ). length f ≡ 2 * m) (length (fs ++ (f ∷ [])) - frames) (fs ++ (f ∷ [])) all-whole
+
+  pub long : frames ≤ length (fs ++ (f ∷ [])) → length (oneAfterAnother (fs ++ (f ∷ []))) ≡ 2 * lengthInForce s
+  long many =
+      let count : length gs ≡ frames = length-drop (length (fs ++ (f ∷ [])) - frames) (fs ++ (f ∷ [])) ∙ omega arith in
+      flat-length m gs newest-whole ∙ ap (λ (k : ℕ). 2 * (k * m)) count
+
+  same : frames ≤ length (fs ++ (f ∷ [])) → numbersOf (oneAfterAnother (fs ++ (f ∷ []))) ≡ newestOf s f
+  same many =
+      let d : ℕ = length (fs ++ (f ∷ [])) - frames in
+      flat-numbers m gs newest-whole
+      ∙ ap flatten (sym (numbers-without d (fs ++ (f ∷ []))) ∙ ap (λ (k : ℕ). drop (k - frames) (numbers (fs ++ (f ∷ [])))) (sym (numbers-count (fs ++ (f ∷ [])))))
+      ∙ sym (remembers .all (omega (arith, numbers-count (fs ++ (f ∷ [])))))
+      ∙ ap (λ (w : Window). take (frames * m) (w .numbers)) (sym with-frame)
+
+  pub heard : Heard (fs ++ (f ∷ [])) s out n out₁
+  heard =
+      record {
+        early = λ fewer.
+            let answer = early-answer s f out keep (omega (arith, counts)) in
+            let ten : n ≡ 10 = c .given ∙ ap givenBack answer in
+            (ten, refused-feed s f out n s₁ out₁ c (λ zero. absurd (omega arith)));
+        decided = λ many. fed-as-decided s f out n s₁ out₁ c is-kept (omega (arith, counts)) (oneAfterAnother (fs ++ (f ∷ []))) (same many) (long many);
+      }
+
+-- ---- over histories
+
+pub holds : {fs : List (List ℕ)} {s : List ℕ} → HasKept fs s → Holds fs s
+holds fresh = empty freshState refl refl
+holds (proposed {s = s} {e = e} {after = t} {n = n} h c) =
+    let l = holds h .relay in
+    let k = propose-left s l e n t c in
+    stays (holds h) (k .relay) (same-window t s (entries-leave-window s e n t l .0 c)) (ap (λ p. p .force) (k .pair))
+holds (confirmed {s = s} {e = e} {after = t} h c) =
+    let l = holds h .relay in
+    empty t (confirm-left s l e 0 t c .relay) (entries-leave-window s e 0 t l .2 c)
+holds (refused {s = s} {e = e} {after = t} {n = n} h c not-0) =
+    let l = holds h .relay in
+    stays (holds h) (confirm-left s l e n t c .relay) (same-window t s (entries-leave-window s e n t l .1 c not-0)) (refused-confirmation s e n t l c not-0 .0)
+holds (kept {fs} {s} {f} {out} {after = t} {out₁ = out₁} {n = n} h bytes c is-kept) = one-more fs s f out n t out₁ (holds h) bytes c is-kept
+holds (not-kept {fs} {s} {f} {out} {after = t} {out₁ = out₁} {n = n} h c left) = subst (Holds fs) (sym (else-nothing-kept s f out n t out₁ c left)) (holds h)
+holds (other h l w force) = stays (holds h) l w force
+
+pub hears-over-histories : HearsOverHistories
+hears-over-histories fs s f out n s₁ out₁ h bytes c is-kept = heard fs s f out n s₁ out₁ (holds h) bytes c is-kept
+
+-- every list of calls is one
+kept-next : (p : Logged) (fs : List (List ℕ)) (c : Call) → FedBytes c → HasKept fs (p .state) → HasKept (framesWith (p .state) fs c) (next p c .state)
+kept-next p fs (proposing e) b h = proposed {e = e} h (record { given = refl; state = refl })
+kept-next p fs (confirming e) b h = by-test (eqb (givenBack (confirmAnswer (p .state) e)) 0) refl
+  where
+    by-test : (x : Bool) → eqb (givenBack (confirmAnswer (p .state) e)) 0 ≡ x → HasKept (cond x [] fs) (next p (confirming e) .state)
+    by-test true t = confirmed {e = e} h (record { given = sym (eqb-true _ 0 t); state = refl })
+    by-test false t = refused {e = e} h (record { given = refl; state = refl }) (eqb-false _ 0 t)
+kept-next p fs (reading-back out) b h = h
+kept-next p fs (deciding samples out) b h = h
+kept-next p fs (feeding f out) b h = by-test (isKept (givenBack (feedAnswer (p .state) f out))) refl
+  where
+    by-test : (x : Bool) → isKept (givenBack (feedAnswer (p .state) f out)) ≡ x → HasKept (cond x (fs ++ (f ∷ [])) fs) (next p (feeding f out) .state)
+    by-test true t = kept {f = f} {out = out} h b (record { given = refl; state = refl; buffer = refl }) t
+    by-test false t = not-kept {f = f} {out = out} h (record { given = refl; state = refl; buffer = refl }) (λ k. false≢true (sym t ∙ k))
+
+kept-after : (p : Logged) (fs : List (List ℕ)) (cs : List Call) → AllBytes cs → HasKept fs (p .state) → HasKept (framesAfter p fs cs) (afterCalls p cs .state)
+kept-after p fs [] b h = h
+kept-after p fs (c ∷ cs) b h = kept-after (next p c) (framesWith (p .state) fs c) cs (b .1) (kept-next p fs c (b .0) h)
+
+pub has-kept : (cs : List Call) → AllBytes cs → HasKept (framesAfter freshRelay [] cs) (afterCalls freshRelay cs .state)
+has-kept cs b = kept-after freshRelay [] cs b fresh
+
+pub firmware-hears : FirmwareHears
+firmware-hears cs f out n s₁ out₁ b bytes c is-kept =
+    hears-over-histories (framesAfter freshRelay [] cs) (afterCalls freshRelay cs .state) f out n s₁ out₁ (has-kept cs b) bytes c is-kept

@@ -1,0 +1,2 @@
+-- Each way out of feed, on plain lists.
+pub mod Cases
