@@ -29,8 +29,8 @@ SMALL, ENOUGH = (0, 31), (32, 33, 64)
 
 
 def plain(found: Chosen, pending: bytes = NOTHING, room: int = 32) -> Call:
-    return Call(found.label, found.record + pending, as_data(found.numbers),
-                room)
+    return Call(found.label, records.relay(found.record, pending),
+                as_data(found.numbers), room)
 
 
 # ---- What would show if it were not refused --------------------------------
@@ -72,7 +72,7 @@ def lengths() -> Iterator[Call]:
         for size, places in product(other_lengths(ends), ([], every)):
             data = as_data(without(strong(ends), places))
             yield Call(f'{size} bytes for {ends} ends',
-                       good(ends) + NOTHING, repeated(data, size), 32)
+                       records.relay(good(ends)), repeated(data, size), 32)
 
 
 # ---- What competes ---------------------------------------------------------
@@ -91,7 +91,8 @@ def order() -> Iterator[Call]:
             yield Call(
                 f'order: state of {size} bytes, in force {in_force.hex()}, '
                 f'another length: {wrong}, missing {places}',
-                records.cut_or_filled(in_force + good(ends), size),
+                records.cut_or_filled(records.relay(in_force, good(ends)),
+                                      size),
                 repeated(data, next(other)) if wrong else data,
                 next(small if tight else enough))
 

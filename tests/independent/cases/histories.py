@@ -1,12 +1,11 @@
-"""All calls that are compared, over the four functions, as histories: first the ones that document 01's rules suggest, one by one,
-then random ones without end."""
+"""All calls of propose, confirm, read-back and decide that are compared, as histories: first the ones that document 01's rules
+suggest, one by one, then random ones without end."""
 from cases import chosen, decide_cases, decision_checks, program_cases, records, settings_cases
 from cases.building import as_data
+from cases.records import FRESH
 from cases.steps import History
 from model.measuring import length, line
-from model.settings import NOTHING, RECORD, STATE, absent
-
-FRESH = bytes(STATE)
+from model.settings import RECORD, absent
 
 
 def single(call):
@@ -31,7 +30,7 @@ def at_work(found, start):
 
 def lengths():
     """Each slice of decide at each length, with the rest as it should be and with the rest wrong."""
-    window, state = bytes(288), records.SAMPLE + NOTHING
+    window, state = bytes(288), records.relay(records.SAMPLE)
     for n in records.LENGTHS:
         for samples, room in ((window, records.ROOM), (b'', b'')):
             yield History(records.cut_or_filled(state, n), [('decide', room, samples)])
@@ -73,7 +72,7 @@ def long(rng, found):
     """A desk and a line at work on one relay: proposals, confirmations right and wrong, third entries, read-backs, and windows
     after any of them."""
     label, wanted, numbers = next(found)
-    state = rng.choice((FRESH, records.good(rng) + NOTHING, records.any_record(rng) + records.any_record(rng)))
+    state = rng.choice((FRESH, records.relay(records.good(rng)), records.relay(records.any_record(rng), records.any_record(rng))))
     steps = rng.choice(([], [('propose', wanted), ('confirm', wanted)]))
     for _ in range(rng.randint(4, 40)):
         one_bit = records.flip(wanted, rng.randrange(RECORD), 1 << rng.randrange(8))

@@ -2,14 +2,24 @@
 slices are filled with."""
 from itertools import combinations
 
-from model.settings import FIELDS, NOTHING, RECORD, SPARE, SQUARES, STATE
+from model.settings import EMPTY, FIELDS, NOTHING, RECORD, SPARE, SQUARES, STATE
 
 # The record of "Window program", and the same with slope 50.
 SAMPLE = bytes.fromhex('0002000F0064000003E80352029B0000000003E8FED4012C0032000000000000')
 ANOTHER = SAMPLE[:3] + b'\x32' + SAMPLE[4:]
 ROOM = bytes([0x5A]) * RECORD
-LENGTHS = [*range(81), 128, 255, 256, 257, 256 + RECORD, 256 + STATE, 4096, 65535, 65536, 65536 + RECORD, 65536 + STATE]
+SHORT_LENGTHS = [*range(81), 128, 255, 256, 257, 256 + RECORD, 256 + STATE]
+LENGTHS = [*SHORT_LENGTHS, STATE - 1, STATE, STATE + 1, 4096, 65535, 65536, 65536 + RECORD, 65536 + STATE]
+FRESH = bytes(STATE)
+# The window of a relay for which nothing else is said: nine frames kept, and no byte of its numbers 0, so that a call that should
+# leave it shows whether it does.
+HELD = bytes([0, 9]) + bytes(1 + at % 251 for at in range(len(EMPTY) - 2))
 ANGLES = {re: [im for im in range(1001) if re * re + im * im in SQUARES] for re in range(1001)}  # real part: imaginary parts
+
+
+def relay(in_force, pending=NOTHING, window=HELD):
+    """The state of a relay."""
+    return in_force + pending + window
 
 
 def put(record, at, number):

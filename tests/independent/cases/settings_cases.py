@@ -2,17 +2,17 @@
 random ones."""
 from itertools import chain, combinations
 
-from cases.records import (ANOTHER, LENGTHS, ROOM, SAMPLE, angle_edges, any_record, cut_or_filled, field_edges, flip, limit_edges,
-                           put, spare_bytes, two_faults)
+from cases.records import (ANOTHER, FRESH, LENGTHS, ROOM, SAMPLE, SHORT_LENGTHS, angle_edges, any_record, cut_or_filled, field_edges,
+                           flip, limit_edges, put, relay, spare_bytes, two_faults)
 from cases.steps import History
-from model.settings import NOTHING, RECORD, STATE
+from model.settings import NOTHING, RECORD
 
 
 def each_way(record):
     """A record proposed, found pending, and found in force."""
-    yield History(ANOTHER + SAMPLE, [('propose', record), ('confirm', record)])
-    yield History(ANOTHER + record, [('confirm', record)])
-    yield History(record + ANOTHER, [('read_back', ROOM), ('propose', SAMPLE)])
+    yield History(relay(ANOTHER, SAMPLE), [('propose', record), ('confirm', record)])
+    yield History(relay(ANOTHER, record), [('confirm', record)])
+    yield History(relay(record, ANOTHER), [('read_back', ROOM), ('propose', SAMPLE)])
 
 
 # Entries and slices
@@ -23,13 +23,13 @@ def damaged_confirmations():
     damaged = [flip(SAMPLE, at, 1 << bit) for at in range(RECORD) for bit in range(8)]
     damaged += [flip(flip(SAMPLE, a, 255), b, 1) for a, b in combinations(range(RECORD), 2)]
     for entry in damaged:
-        yield History(ANOTHER + NOTHING, [('propose', SAMPLE), ('confirm', entry), ('confirm', SAMPLE), ('read_back', ROOM)])
+        yield History(relay(ANOTHER), [('propose', SAMPLE), ('confirm', entry), ('confirm', SAMPLE), ('read_back', ROOM)])
 
 
 def lengths():
     """Each slice at each length, with the rest as it should be and with the rest wrong."""
     for n in LENGTHS:
-        for state in (SAMPLE + SAMPLE, bytes(STATE)):
+        for state in (relay(SAMPLE, SAMPLE), FRESH):
             for entry in (SAMPLE, b''):
                 yield History(cut_or_filled(state, n), [('propose', entry), ('confirm', entry), ('read_back', entry)])
             for entry in (cut_or_filled(SAMPLE, n), b'\xff' * n):
@@ -42,7 +42,7 @@ def stored_records():
     for in_force in kinds:
         for pending in kinds:
             for entry in kinds:
-                yield from (History(in_force + pending, [(call, entry)]) for call in ('propose', 'confirm', 'read_back'))
+                yield from (History(relay(in_force, pending), [(call, entry)]) for call in ('propose', 'confirm', 'read_back'))
 
 
 def fixed():
@@ -55,11 +55,11 @@ def fixed():
 
 
 def any_length(rng, data):
-    return data if rng.random() < 0.9 else cut_or_filled(data, rng.choice(LENGTHS[:-5]))
+    return data if rng.random() < 0.9 else cut_or_filled(data, rng.choice(SHORT_LENGTHS))
 
 
 def single(rng):
-    state = any_record(rng) + any_record(rng)
-    entry = rng.choice((any_record(rng), state[:RECORD], state[RECORD:], flip(state[RECORD:], rng.randrange(RECORD), 1)))
+    in_force, pending = any_record(rng), any_record(rng)
+    entry = rng.choice((any_record(rng), in_force, pending, flip(pending, rng.randrange(RECORD), 1)))
     call = rng.choice(('propose', 'confirm', 'read_back'))
-    return History(any_length(rng, state), [(call, any_length(rng, entry))])
+    return History(any_length(rng, relay(in_force, pending)), [(call, any_length(rng, entry))])

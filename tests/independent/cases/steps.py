@@ -6,7 +6,7 @@ from typing import List, NamedTuple, Optional
 class Step(NamedTuple):
     call: str
     other: bytes                     # the entry or the buffer that is lent
-    samples: Optional[bytes] = None  # the window, for decide
+    samples: Optional[bytes] = None  # the window, for decide; the frame, for feed
 
 
 class History(NamedTuple):

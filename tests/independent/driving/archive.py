@@ -32,12 +32,12 @@ def build(archive):
         sys.exit('the driver was not built')
 
 
-def first(followed, count):
-    """As many of the first as make so many calls together."""
+def first(followed, count, call=None):
+    """As many of the first as make so many calls together, or so many of the one that is named."""
     total = 0
     for made, lines in followed:
         yield made, lines
-        total += len(made)
+        total += sum(call in (None, one.step.call) for one in made)
         if total >= count:
             return
 

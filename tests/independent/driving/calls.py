@@ -1,8 +1,8 @@
-"""The four calls as the model makes them, in the driver's form, and what each should leave."""
+"""The five calls as the model makes them, in the driver's form, and what each should leave."""
 from typing import NamedTuple
 
 from cases.steps import Step
-from model import decision, settings
+from model import decision, feeding, settings
 
 BEFORE, BEHIND = bytes(range(101, 118)), bytes(range(201, 218))  # odd in length, so that slices also begin at odd addresses
 
@@ -15,16 +15,19 @@ class Made(NamedTuple):
     wanted: settings.Result
 
 
-def decide(state, samples, out):
-    number, place, written = decision.decide(state, samples, len(out))
+def with_decision(state, decided, out):
+    """The state that a call leaves, and the buffer with what was decided."""
+    number, place, written = decided
     # "It is written at the front of the lent buffer; later bytes stay."
     return settings.Result(number, place, state, out if written is None else written + out[len(written):])
 
 
 def result(state, step):
-    """What document 01 wants of a step."""
+    """What documents 01 and 02 want of a step."""
     if step.call == 'decide':
-        return decide(state, step.samples, step.other)
+        return with_decision(state, decision.decide(state, step.samples, len(step.other)), step.other)
+    if step.call == 'feed':
+        return with_decision(*feeding.feed(state, step.samples, len(step.other)), step.other)
     return settings.CALLS[step.call](state, step.other)
 
 
@@ -54,7 +57,7 @@ def follow(history):
 
 
 def left(made):
-    """The slices as a call should leave them, by name: a window stays as it was lent."""
+    """The slices as a call should leave them, by name: a window or a frame stays as it was lent."""
     slices = {'state': made.wanted.state, 'samples': made.step.samples, 'other': made.wanted.other}
     return {name: data for name, data in slices.items() if data is not None}
 
@@ -87,4 +90,4 @@ def difference(made, got, status):
     lines = [f'    {name} {shown(guarded(data))}\n' for name, data in lent.items() if data is not None]
     found = came(got) if len(got) == len(wanted) else f'no result: the driver ended with status {status}'
     return (f'DIFFERENCE in {made.step.call} {made.label}\n  lent\n{"".join(lines)}'
-            f'  document 01: {came(wanted)}\n  archive: {found}')
+            f'  documents 01 and 02: {came(wanted)}\n  archive: {found}')

@@ -25,7 +25,7 @@ sys.path[0] = str(Path(__file__).resolve().parents[1])  # model, cases, driving
 from cases import chosen, currents, equalities  # noqa: E402
 from cases.building import as_data  # noqa: E402
 from cases.hunting import first_band, second_band  # noqa: E402
-from cases.records import ROOM  # noqa: E402
+from cases.records import ROOM, relay  # noqa: E402
 from cases.steps import History  # noqa: E402
 from driving import archive, calls  # noqa: E402
 from driving.sides import NAMES  # noqa: E402
@@ -33,7 +33,7 @@ from model.decision import DECISION, FORM  # noqa: E402
 from model.differential import (F, H, L, by_phase, first_half,  # noqa: E402
                                 second_half, slope)
 from model.measuring import numbers  # noqa: E402
-from model.settings import NOTHING, RECORD  # noqa: E402
+from model.settings import RECORD  # noqa: E402
 
 BATCH = 5000
 MS = (1, 2, 3, 10, 1000)
@@ -139,8 +139,8 @@ def hold(made, got, ms):
 def each(found):
     """Each window with every record that is tried on it."""
     for label, record, window in chosen.tried(found):
-        yield History(record + NOTHING,
-                      [('decide', ROOM, as_data(window))], label)
+        yield History(relay(record), [('decide', ROOM, as_data(window))],
+                      label)
 
 
 def look_at(found, rng):

@@ -2,10 +2,11 @@
 ** Makes the calls that standard input describes and writes what each left to standard output; it judges nothing.
 **
 ** Input: a letter, the length of a guard (1 byte) and of a slice (3 bytes, upper first), then guard, slice, guard. The letter s
-** lends a new relay and w a new window; p, c and r propose, confirm and read back with the relay as the last call left it, and d
-** decides on the window as the last call left it, with this slice as the room for the decision.
-** Output for p, c, r and d: what came back (8 bytes, upper first), then the relay, for d the window, and the other slice, each with
-** its guards.
+** lends a new relay and w a new window, or a new frame; p, c and r propose, confirm and read back with the relay as the last call
+** left it, and d decides on the window as the last call left it, with this slice as the room for the decision. f feeds the frame in
+** the same way.
+** Output for p, c, r, d and f: what came back (8 bytes, upper first), then the relay, for d and f the window or frame, and the other
+** slice, each with its guards.
 */
 #include <stdio.h>
 
@@ -27,7 +28,8 @@ static struct lent *place(uint8_t letter) {
   case 'p':
   case 'c':
   case 'r':
-  case 'd': return &other;
+  case 'd':
+  case 'f': return &other;
   default: return 0;
   }
 }
@@ -46,6 +48,7 @@ static uint64_t call(uint8_t letter) {
   case 'p': return gorsepetal_propose(relay, state.length, bytes, other.length);
   case 'c': return gorsepetal_confirm(relay, state.length, bytes, other.length);
   case 'r': return gorsepetal_read_back(relay, state.length, bytes, other.length);
+  case 'f': return gorsepetal_feed(relay, state.length, samples, window.length, bytes, other.length);
   default: return gorsepetal_decide(relay, state.length, samples, window.length, bytes, other.length);
   }
 }
@@ -58,7 +61,7 @@ static int tell(uint8_t letter, uint64_t answer) {
   for (int i = 0; i < 8; i++) bytes[i] = (uint8_t)(answer >> (56 - 8 * i));
   fwrite(bytes, 1, sizeof bytes, stdout);
   tell_slice(&state);
-  if (letter == 'd') tell_slice(&window);
+  if (letter == 'd' || letter == 'f') tell_slice(&window);
   tell_slice(&other);
   return fflush(stdout) == 0;
 }

@@ -1,25 +1,26 @@
-"""What the compared calls gave, and what all of them together should have given: every answer that document 01 allows, every bit of
-a decision both ways, and every side of a rule that a decision can show."""
+"""What the compared calls gave, and what all of them together should have given: every answer that documents 01 and 02 allow, every
+bit of a decision both ways, and every side of a rule that a decision can show. What feeds should show beside is in fed_tally.py."""
 from collections import Counter
+from itertools import product
 
 from cases.building import ENDS
 from driving import decision_shown
 from model.measuring import BITS, channels, length, line
 from model.settings import ANSWERS, RECORD
 
-# The numbers of decide beside 4, each at place 0. 4 has the places of a window.
-OF_DECIDE = (0, 1, 2, 3, 17)
+# The numbers beside 4, each at place 0. 4 has the places of a window.
+AT_0 = {'decide': (0, 1, 2, 3, 17), 'feed': (0, 1, 3, 9, 10, 17)}
 PHASES = {'a': 1, 'b': 2, 'c': 4}
 
 
-def of_missing(ends, place):
-    return f'decide 4 at {place}, {ends} ends'
+def of_missing(call, ends, place):
+    return f'{call} 4 at {place}, {ends} ends'
 
 
 def answer(made):
     call, number, place = made.step.call, made.wanted.number, made.wanted.place
-    if (call, number) == ('decide', 4):
-        return of_missing(line(made.state[:RECORD]).ends, place)
+    if call in AT_0 and number == 4:
+        return of_missing(call, line(made.state[:RECORD]).ends, place)
     return f'{call} {number} at {place}'
 
 
@@ -27,13 +28,13 @@ def answers():
     """All but those for missing samples."""
     yield from (f'{call} {number} at {place}' for call, numbers in ANSWERS.items() for number, places in numbers.items()
                 for place in places)
-    yield from (f'decide {number} at 0' for number in OF_DECIDE)
+    yield from (f'{call} {number} at 0' for call, numbers in AT_0.items() for number in numbers)
 
 
-def missing(ends):
+def missing(call, ends):
     """The answers for missing samples: every place, and those at the edges of a frame."""
     frame = channels(ends)
-    places = {place: of_missing(ends, place) for place in range(length(ends))}
+    places = {place: of_missing(call, ends, place) for place in range(length(ends))}
     return list(places.values()), [found for place, found in places.items() if place % frame in (0, frame - 1)]
 
 
@@ -77,13 +78,13 @@ class Tally:
         found = self.answers + self.bits
         for what in wanted:
             print(f'{what}: {found[what]}')
-        for ends in ENDS:
-            places, edges = missing(ends)
+        for call, ends in product(AT_0, ENDS):
+            places, edges = missing(call, ends)
             seen = [found[place] for place in places if found[place]]
-            print(f'decide 4, {ends} ends: {sum(seen)}, at {len(seen)} of {length(ends)} places')
+            print(f'{call} 4, {ends} ends: {sum(seen)}, at {len(seen)} of {length(ends)} places')
             allowed, wanted = allowed + places, wanted + edges
         seen = len(self.sides) - len(self.unseen)
         print(f'sides of the rules: {seen} of {len(self.sides)}, seen in the first {self.looked} decides')
         yield from (f'{what}: never seen' for what in [*wanted, *sorted(self.unseen)] if what in self.unseen or not found[what])
-        yield from (f'{what} is no answer of document 01' for what in sorted(set(self.answers) - set(allowed)))
+        yield from (f'{what} is no answer of documents 01 and 02' for what in sorted(set(self.answers) - set(allowed)))
         yield from (f'{what} is nothing that a decision can say' for what in sorted(set(self.bits) - set(all_bits())))

@@ -3,6 +3,7 @@ decision record.
 
 Comments in quotes are the document's own sentences.
 """
+import functools
 import struct
 from typing import NamedTuple, Optional
 
@@ -10,7 +11,7 @@ from model.differential import by_phase, phases_operating
 from model.measuring import (FORWARD, channel, direction, first_missing,
                              length, line, loop_bits, negative, numbers,
                              phasor)
-from model.settings import RECORD, STATE, absent
+from model.settings import IN_FORCE, STATE, absent
 
 # ---- Decision record -------------------------------------------------------
 
@@ -55,11 +56,22 @@ def refuse(number: int, place: int = 0) -> Decided:
     return Decided(number, place, None)
 
 
+# A steady wave that is fed comes round to the same windows, so the last ones
+# are kept.
+@functools.lru_cache(maxsize=1024)
+def of_window(record: bytes, samples: tuple[int, ...]) -> Decided:
+    """Of a good record, and a window of its length."""
+    missing = first_missing(samples)
+    if missing is not None:         # "a missing sample", at its "index in
+        return refuse(4, missing)   # the slice"
+    return Decided(0, 0, decision_record(record, list(samples)))
+
+
 def decide(state: bytes, samples: bytes, room: int) -> Decided:
     """ "Decide checks 1, 2, 3, 4." The state stays as it is."""
     if len(state) != STATE:         # "before all others, changes nothing"
         return refuse(17)
-    in_force = state[:RECORD]
+    in_force = state[IN_FORCE]
     if absent(in_force):            # "no settings in force"
         return refuse(1)
     found = numbers(samples)
@@ -67,7 +79,4 @@ def decide(state: bytes, samples: bytes, room: int) -> Decided:
         return refuse(2)            # "window of another length"
     if room < DECISION:             # "room below 32 bytes"
         return refuse(3)
-    missing = first_missing(found)
-    if missing is not None:         # "a missing sample", at its "index in
-        return refuse(4, missing)   # the slice"
-    return Decided(0, 0, decision_record(in_force, found))
+    return of_window(in_force, tuple(found))

@@ -1,4 +1,5 @@
-"""The rules of document 01 for settings, in its order and words.
+"""The rules of document 01 for settings, in its order and words, and the parts
+of the relay's state.
 
 Each call takes the relay's state and the other lent slice as bytes, and gives
 what it leaves of both. Comments in quotes are the document's own sentences.
@@ -9,10 +10,17 @@ from typing import NamedTuple, Optional
 
 # "The relay's state is lent from C too, as a slice of one fixed length; all
 # zero bytes are a fresh relay."
-# Bytes 0 to 31 are the record in force, bytes 32 to 63 the pending one.
 RECORD = 32
-STATE = 64
-NOTHING = bytes(RECORD)
+IN_FORCE = slice(0, 32)     # the record in force
+PENDING = slice(32, 64)     # the pending one
+# Document 02, CR 1: "The relay's state gains a window of 336 numbers with a
+# count of frames." Both as 16-bit big-endian numbers, the count in front.
+WINDOW = slice(64, 738)
+COUNT = slice(64, 66)
+NUMBERS = slice(66, 738)
+STATE = 738
+NOTHING = bytes(RECORD)             # a record that was dropped
+EMPTY = bytes(STATE - 2 * RECORD)   # a window that holds no frame
 
 
 class Result(NamedTuple):
@@ -89,7 +97,8 @@ def absent(stored: bytes) -> bool:
 def refuse(number: int, place: int, state: bytes, entry: bytes) -> Result:
     # "Any refused propose or confirm leaves nothing pending and the record in
     # force unchanged (17 apart: there no relay was lent)."
-    return Result(number, place, state[:RECORD] + NOTHING, entry)
+    return Result(number, place, state[IN_FORCE] + NOTHING + state[WINDOW],
+                  entry)
 
 
 # ---- Numbers given back ----------------------------------------------------
@@ -110,7 +119,7 @@ def propose(state: bytes, other: bytes) -> Result:
         return refuse(6, fault, state, other)
     # "To propose a good record makes it pending, in place of any earlier
     # pending one."
-    return Result(0, 0, state[:RECORD] + other, other)
+    return Result(0, 0, state[IN_FORCE] + other + state[WINDOW], other)
 
 
 def confirm(state: bytes, other: bytes) -> Result:
@@ -119,22 +128,23 @@ def confirm(state: bytes, other: bytes) -> Result:
         return Result(17, 0, state, other)
     if len(other) != RECORD:        # "settings entry not 32 bytes"
         return refuse(5, 0, state, other)
-    pending = state[RECORD:]
+    pending = state[PENDING]
     if absent(pending):             # "nothing pending (confirm)"
         return refuse(7, 0, state, other)
     for at in range(RECORD):        # "confirmation differs",
         if other[at] != pending[at]:    # at the "first differing offset"
             return refuse(8, at, state, other)
     # "To confirm with the same 32 bytes puts it in force and leaves nothing
-    # pending."
-    return Result(0, 0, pending + NOTHING, other)
+    # pending." Document 02, CR 1: "A confirmation answered 0 empties it", the
+    # window.
+    return Result(0, 0, pending + NOTHING + EMPTY, other)
 
 
 def read_back(state: bytes, other: bytes) -> Result:
     """The other slice is the lent buffer. "Read-back: 1, 3." """
     if len(state) != STATE:
         return Result(17, 0, state, other)
-    in_force = state[:RECORD]
+    in_force = state[IN_FORCE]
     if absent(in_force):            # "no settings in force"
         return Result(1, 0, state, other)
     if len(other) < RECORD:         # "room below 32 bytes"
