@@ -30,7 +30,7 @@ def code_bytes(elf):
 
 
 def main(paths):
-    print('\nBytes of code, all four calls\n')
+    print('\nBytes of code, all five calls\n')
     for path in paths:
         with open(path, 'rb') as file:
             print(f'{os.path.basename(path):<20}{sum(map(code_bytes, members(file.read()))):>7}')

@@ -1,29 +1,47 @@
 /* One call with all that is lent to it: the versions that can make it, and how it is made. */
 #include "lent.h"
 
-static const four_calls archive = {gorsepetal_propose, gorsepetal_confirm, gorsepetal_read_back, gorsepetal_decide};
+static const all_calls archive = {gorsepetal_propose, gorsepetal_confirm, gorsepetal_read_back, gorsepetal_decide, gorsepetal_feed};
 
 const struct version versions[VERSIONS] = {
-    {"archive", &archive},
-    {"plain -O2", &plain_O2},
-    {"plain -O3", &plain_O3},
-    {"double -O2", &plain_double_O2},
-    {"double -O3", &plain_double_O3},
+    {"archive", &archive, 0},
+    {"plain -O2", &plain_O2, 0},
+    {"plain -O3", &plain_O3, 0},
+    {"double -O2", &plain_double_O2, 0},
+    {"double -O3", &plain_double_O3, 0},
+    {"own -O3", &plain_own_O3, 1},
 };
 
-const char *const call_names[CALLS] = {"propose", "confirm", "read-back", "decide"};
+const char *const call_names[CALLS] = {"propose", "confirm", "read-back", "decide", "feed"};
 
-uint64_t make(const four_calls *version, which_call call, lent *l) {
-  if (call == PROPOSE) return version->propose(l->state, l->state_len, l->in, l->in_len);
-  if (call == CONFIRM) return version->confirm(l->state, l->state_len, l->in, l->in_len);
-  if (call == READ_BACK) return version->read_back(l->state, l->state_len, l->out, l->out_len);
-  return version->decide(l->state, l->state_len, l->in, l->in_len, l->out, l->out_len);
+uint64_t make(const struct version *version, which_call call, lent *l) {
+  const all_calls *its = version->calls;
+  switch (call) {
+  case PROPOSE: return its->propose(l->state, l->state_len, l->in, l->in_len);
+  case CONFIRM: return its->confirm(l->state, l->state_len, l->in, l->in_len);
+  case READ_BACK: return its->read_back(l->state, l->state_len, l->out, l->out_len);
+  case DECIDE: return its->decide(l->state, l->state_len, l->in, l->in_len, l->out, l->out_len);
+  default: return its->feed(l->state, l->state_len, l->in, l->in_len, l->out, l->out_len);
+  }
 }
 
-uintptr_t code_of(const four_calls *version, which_call call) {
-  if (call == PROPOSE) return (uintptr_t)version->propose;
-  if (call == CONFIRM) return (uintptr_t)version->confirm;
-  return call == READ_BACK ? (uintptr_t)version->read_back : (uintptr_t)version->decide;
+void turn_window(const struct version *version, lent *l) {
+  for (int at = GORSEPETAL_STATE_AT_COUNT; version->own_numbers && at < STATE; at += 2) {
+    uint8_t upper = l->state[at];
+    l->state[at] = l->state[at + 1];
+    l->state[at + 1] = upper;
+  }
+}
+
+uintptr_t code_of(const struct version *version, which_call call) {
+  const all_calls *its = version->calls;
+  switch (call) {
+  case PROPOSE: return (uintptr_t)its->propose;
+  case CONFIRM: return (uintptr_t)its->confirm;
+  case READ_BACK: return (uintptr_t)its->read_back;
+  case DECIDE: return (uintptr_t)its->decide;
+  default: return (uintptr_t)its->feed;
+  }
 }
 
 void put(uint8_t *bytes, int at, int number) {

@@ -14,26 +14,31 @@ enum {
 };
 
 /* The versions, the library's archive first. */
-enum { ARCHIVE, PLAIN_O2, PLAIN_O3, DOUBLE_O2, DOUBLE_O3, VERSIONS };
+enum { ARCHIVE, PLAIN_O2, PLAIN_O3, DOUBLE_O2, DOUBLE_O3, OWN_O3, VERSIONS };
 extern const struct version {
   const char *name;
-  const four_calls *calls;
+  const all_calls *calls;
+  int own_numbers; /* it keeps the window that is fed in the processor's own numbers */
 } versions[VERSIONS];
 
-typedef enum { PROPOSE, CONFIRM, READ_BACK, DECIDE, CALLS } which_call;
+typedef enum { PROPOSE, CONFIRM, READ_BACK, DECIDE, FEED, CALLS } which_call;
 extern const char *const call_names[CALLS];
 
-/* The slices of a call with their lengths. `in` is what it reads: the entry of propose and confirm, the samples of decide. */
+/* The slices of a call with their lengths. `in` is what it reads: the entry of propose and confirm, the samples of decide, the frame of
+** feed. */
 typedef struct {
   size_t state_len, in_len, out_len;
   uint8_t state[STATE + BEYOND], in[GORSEPETAL_WINDOW_BYTES(MOST_ENDS) + BEYOND], out[DECISION + BEYOND];
 } lent;
 
 /* Makes the call on these slices and gives back its answer. */
-uint64_t make(const four_calls *version, which_call call, lent *slices);
+uint64_t make(const struct version *version, which_call call, lent *slices);
+
+/* Puts the state's window into the order of bytes that this version keeps it in, or back. */
+void turn_window(const struct version *version, lent *slices);
 
 /* Where the code of this version's call begins. */
-uintptr_t code_of(const four_calls *version, which_call call);
+uintptr_t code_of(const struct version *version, which_call call);
 
 /* Writes a 16-bit field or sample, upper byte first. */
 void put(uint8_t *bytes, int at, int number);

@@ -1,17 +1,19 @@
 /*
-** Document 01 as one would write it in C: tables, 64-bit sums, one quantity after another. It is the measure for the library's speed and
-** nothing else: its answers are compared with the library's before anything is counted.
+** Document 01, and feeding, as one would write them in C: tables, 64-bit sums, one quantity after another. It is the measure for the
+** library's speed and nothing else: its answers are compared with the library's before anything is counted.
 **
-** It is compiled four times, each time under the name PLAIN: at -O2 and at -O3, and with either root. DOUBLE_ROOT takes the processor's
+** It is compiled five times, each time under the name PLAIN: at -O2 and at -O3, and with either root. DOUBLE_ROOT takes the processor's
 ** square root of a double, which is exact here: every number that a root is taken of is below 2^52. Without it the root is a whole-number
-** one, a bit of the result a turn, beginning at the highest bit there is.
+** one, a bit of the result a turn, beginning at the highest bit there is. OWN_NUMBERS is for feed: see there.
 */
 #include <string.h>
 
 #include "plain.h"
 
-enum { RECORD = 32, STATE = 64, DECISION = 32, FRAMES = 16, PHASES = 3, MOST_ENDS = 6, LONGEST = FRAMES * PHASES * (1 + MOST_ENDS) };
-enum { DONE, NO_SETTINGS, WINDOW_LENGTH, NO_ROOM, MISSING, ENTRY_LENGTH, OUT_OF_RANGE, NOTHING_PENDING, DIFFERS, NO_RELAY = 17 };
+enum { RECORD = 32, DECISION = 32, FRAMES = 16, PHASES = 3, MOST_ENDS = 6, LONGEST = FRAMES * PHASES * (1 + MOST_ENDS) };
+enum { COUNT = 2 * RECORD, NUMBERS = COUNT + 2, STATE = NUMBERS + 2 * LONGEST }; /* of the state: the offsets of its window, its length */
+enum { DONE, NO_SETTINGS, WINDOW_LENGTH, NO_ROOM, MISSING, ENTRY_LENGTH, OUT_OF_RANGE, NOTHING_PENDING, DIFFERS };
+enum { FRAME_LENGTH = 9, TOO_FEW_FRAMES = 10, NO_RELAY = 17 };
 enum { NONE, FORWARD, REVERSE };
 
 typedef struct {
@@ -63,6 +65,9 @@ static size_t fault(const uint8_t *r) {
 
 static int good(const uint8_t *record) { return fault(record) == RECORD; }
 
+static size_t ends_of(const uint8_t *record) { return (size_t)unsigned_at(record, 0); }
+static size_t channels_of(const uint8_t *record) { return PHASES + PHASES * ends_of(record); }
+
 static uint64_t proposed(const uint8_t *entry, size_t entry_len) {
   if (entry_len != RECORD) return ENTRY_LENGTH;
   size_t at = fault(entry);
@@ -90,7 +95,10 @@ static uint64_t confirmed(const uint8_t *pending, const uint8_t *entry, size_t e
 static uint64_t confirm(uint8_t *state, size_t state_len, const uint8_t *entry, size_t entry_len) {
   if (state_len != STATE) return NO_RELAY;
   uint64_t answer = confirmed(state + RECORD, entry, entry_len);
-  if (answer == DONE) memcpy(state, entry, RECORD);
+  if (answer == DONE) {
+    memcpy(state, entry, RECORD);
+    memset(state + COUNT, 0, STATE - COUNT);
+  }
   memset(state + RECORD, 0, RECORD);
   return answer;
 }
@@ -204,7 +212,7 @@ static uint64_t root_up(uint64_t x) {
 
 /* The phases that operate; the restraints U and the magnitudes of the differential go to the decision, three words each. */
 static int differential(const uint8_t *r, phasor currents[PHASES][MOST_ENDS], uint8_t *restraints, uint8_t *magnitudes) {
-  size_t ends = (size_t)unsigned_at(r, 0);
+  size_t ends = ends_of(r);
   uint64_t slope = (uint64_t)unsigned_at(r, 2), pickup = (uint64_t)unsigned_at(r, 4);
   int bits = 0;
   for (size_t p = 0; p < PHASES; p++) {
@@ -223,30 +231,89 @@ static int differential(const uint8_t *r, phasor currents[PHASES][MOST_ENDS], ui
   return bits;
 }
 
-static uint64_t decide(const uint8_t *state, size_t state_len, const uint8_t *samples, size_t samples_len, uint8_t *out, size_t out_len) {
-  if (state_len != STATE) return NO_RELAY;
-  if (!good(state)) return NO_SETTINGS;
-  size_t ends = (size_t)unsigned_at(state, 0), channels = PHASES + PHASES * ends, numbers = FRAMES * channels;
-  if (samples_len != 2 * numbers) return WINDOW_LENGTH;
-  if (out_len < DECISION) return NO_ROOM;
-  int16_t window[LONGEST];
-  for (size_t k = 0; k < numbers; k++) {
-    window[k] = (int16_t)signed_at(samples, 2 * k);
-    if (window[k] == -32768) return refused(MISSING, k);
-  }
+/* Decision */
+
+/* The decision on a window of which no sample is missing. */
+static void decision(const uint8_t *r, const int16_t *window, uint8_t *out) {
+  size_t ends = ends_of(r), channels = channels_of(r);
   phasor v[PHASES], local[PHASES], currents[PHASES][MOST_ENDS];
   for (size_t p = 0; p < PHASES; p++) {
     v[p] = measure(window, channels, p);
     for (size_t e = 0; e < ends; e++) currents[p][e] = measure(window, channels, PHASES + PHASES * e + p);
     local[p] = currents[p][0];
   }
-  int phases = differential(state, currents, out + 8, out + 20), asserting = loops(state, v, local), way = direction(state, v, local);
+  int phases = differential(r, currents, out + 8, out + 20), asserting = loops(r, v, local), way = direction(r, v, local);
   out[0] = phases != 0 || (way == FORWARD && asserting != 0);
   out[1] = (uint8_t)phases;
   out[2] = (uint8_t)asserting;
   out[3] = (uint8_t)way;
   memset(out + 4, 0, 4);
+}
+
+/* The answer of decide and of feed on a window of samples, upper byte first. It is written out in both, which at -O3 makes the
+** faster feed. */
+static inline __attribute__((always_inline)) uint64_t decided(const uint8_t *r, const uint8_t *samples, uint8_t *out) {
+  size_t numbers = FRAMES * channels_of(r);
+  int16_t window[LONGEST];
+  for (size_t k = 0; k < numbers; k++) {
+    window[k] = (int16_t)signed_at(samples, 2 * k);
+    if (window[k] == -32768) return refused(MISSING, k);
+  }
+  decision(r, window, out);
   return DONE;
 }
 
-const four_calls PLAIN = {propose, confirm, read_back, decide};
+static uint64_t decide(const uint8_t *state, size_t state_len, const uint8_t *samples, size_t samples_len, uint8_t *out, size_t out_len) {
+  if (state_len != STATE) return NO_RELAY;
+  if (!good(state)) return NO_SETTINGS;
+  if (samples_len != 2 * FRAMES * channels_of(state)) return WINDOW_LENGTH;
+  if (out_len < DECISION) return NO_ROOM;
+  return decided(state, samples, out);
+}
+
+/* Feeding. The frame is kept as the newest, and the oldest goes; of a line with fewer ends the numbers behind the 16 frames stay. */
+
+static uint16_t counted(int64_t count) { return (uint16_t)(count < FRAMES ? count + 1 : FRAMES); }
+
+#ifdef OWN_NUMBERS
+/* The same 738 bytes with the count and the numbers in the processor's own order, aligned: only the new frame has to be decoded. */
+typedef struct __attribute__((may_alias)) {
+  uint8_t records[COUNT];
+  uint16_t count;
+  int16_t numbers[LONGEST];
+} relay;
+
+static uint64_t fed(uint8_t *state, const uint8_t *frame, uint8_t *out) {
+  relay *own = (relay *)state;
+  size_t channels = channels_of(state), numbers = FRAMES * channels, newest = numbers - channels;
+  memmove(own->numbers, own->numbers + channels, newest * sizeof *own->numbers);
+  for (size_t k = 0; k < channels; k++) own->numbers[newest + k] = (int16_t)signed_at(frame, 2 * k);
+  own->count = counted(own->count);
+  if (own->count < FRAMES) return TOO_FEW_FRAMES;
+  for (size_t k = 0; k < numbers; k++)
+    if (own->numbers[k] == -32768) return refused(MISSING, k);
+  decision(state, own->numbers, out);
+  return DONE;
+}
+#else
+static uint64_t fed(uint8_t *state, const uint8_t *frame, uint8_t *out) {
+  uint8_t *numbers = state + NUMBERS;
+  size_t length = 2 * channels_of(state), newest = (FRAMES - 1) * length;
+  memmove(numbers, numbers + length, newest);
+  memcpy(numbers + newest, frame, length);
+  uint16_t count = counted(unsigned_at(state, COUNT));
+  state[COUNT] = 0;
+  state[COUNT + 1] = (uint8_t)count;
+  return count < FRAMES ? TOO_FEW_FRAMES : decided(state, numbers, out);
+}
+#endif
+
+static uint64_t feed(uint8_t *state, size_t state_len, const uint8_t *frame, size_t frame_len, uint8_t *out, size_t out_len) {
+  if (state_len != STATE) return NO_RELAY;
+  if (!good(state)) return NO_SETTINGS;
+  if (frame_len != 2 * channels_of(state)) return FRAME_LENGTH;
+  if (out_len < DECISION) return NO_ROOM;
+  return fed(state, frame, out);
+}
+
+const all_calls PLAIN = {propose, confirm, read_back, decide, feed};

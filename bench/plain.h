@@ -1,4 +1,4 @@
-/* The four calls in plain C, to be counted beside the library's: one source, compiled in four ways. */
+/* The calls in plain C, to be counted beside the library's: one source, compiled in five ways. */
 #ifndef PLAIN_H
 #define PLAIN_H
 #include <stddef.h>
@@ -10,9 +10,11 @@ typedef struct {
   uint64_t (*confirm)(uint8_t *state, size_t state_len, const uint8_t *entry, size_t entry_len);
   uint64_t (*read_back)(const uint8_t *state, size_t state_len, uint8_t *out, size_t out_len);
   uint64_t (*decide)(const uint8_t *state, size_t state_len, const uint8_t *samples, size_t samples_len, uint8_t *out, size_t out_len);
-} four_calls;
+  uint64_t (*feed)(uint8_t *state, size_t state_len, const uint8_t *frame, size_t frame_len, uint8_t *out, size_t out_len);
+} all_calls;
 
-/* At -O2 and at -O3, with a root in whole numbers and with the processor's root of a double. */
-extern const four_calls plain_O2, plain_O3, plain_double_O2, plain_double_O3;
+/* At -O2 and at -O3, with a root in whole numbers and with the processor's root of a double. The last keeps the window that is fed in the
+** processor's own numbers, where the others and the library have bytes, upper byte first. */
+extern const all_calls plain_O2, plain_O3, plain_double_O2, plain_double_O3, plain_own_O3;
 
 #endif

@@ -16,10 +16,12 @@ static int same_bytes(const lent *a, const lent *b) {
 
 void same(which_call call, const lent *slices) {
   lent wanted = *slices;
-  uint64_t answer = make(versions[ARCHIVE].calls, call, &wanted);
+  uint64_t answer = make(&versions[ARCHIVE], call, &wanted);
   for (int v = ARCHIVE + 1; v < VERSIONS; v++) {
     lent got = *slices;
-    uint64_t other = make(versions[v].calls, call, &got);
+    turn_window(&versions[v], &got);
+    uint64_t other = make(&versions[v], call, &got);
+    turn_window(&versions[v], &got);
     if (other == answer && same_bytes(&got, &wanted)) continue;
     printf("%s: the archive gives back %d at %d, %s %d at %d%s\n", call_names[call], (int)GORSEPETAL_NUMBER(answer),
            (int)GORSEPETAL_PLACE(answer), versions[v].name, (int)GORSEPETAL_NUMBER(other), (int)GORSEPETAL_PLACE(other),
@@ -31,7 +33,7 @@ void same(which_call call, const lent *slices) {
 
 /* The call as it is, and with a state of other lengths. */
 static void same_with_other_states(which_call call, lent *slices) {
-  static const size_t lengths[] = {0, RECORD, STATE - 1, STATE + 1, STATE};
+  static const size_t lengths[] = {0, GORSEPETAL_STATE_AT_COUNT, STATE - 1, STATE + 1, STATE};
   for (size_t k = 0; k < sizeof lengths / sizeof *lengths; k++) {
     slices->state_len = lengths[k];
     same(call, slices);
@@ -114,6 +116,24 @@ static void decide_refusals(void) {
       }
 }
 
+/* Frames of each length about the right one, with so many frames before and a sample missing or none, by a good record and by none. */
+static void feed_refusals(void) {
+  static const int counts[] = {0, 14, 15, 16, 17, 255, 256, 32767, -1};
+  for (int ends = FEWEST_ENDS; ends <= MOST_ENDS; ends++)
+    for (size_t k = 0; k < sizeof counts / sizeof *counts; k++)
+      for (int length = -2; length <= 2; length++) {
+        lent slices;
+        lend_fault(&slices, ends);
+        if (k % 2 == 1) miss(&slices, last_sample(&slices));
+        feed_newest(&slices);
+        put(slices.state, GORSEPETAL_STATE_AT_COUNT, counts[k]);
+        slices.in_len += (size_t)length;
+        same_with_other_rooms(FEED, &slices);
+        memset(slices.state, 0, RECORD);
+        same_with_other_rooms(FEED, &slices);
+      }
+}
+
 /* A sample missing at each place; the last one is missing too: the first is named. */
 static void missing_samples(void) {
   for (int ends = FEWEST_ENDS; ends <= MOST_ENDS; ends++) {
@@ -124,6 +144,8 @@ static void missing_samples(void) {
       miss(&slices, last_sample(&slices));
       miss(&slices, place);
       same(DECIDE, &slices);
+      feed_newest(&slices);
+      same(FEED, &slices);
     }
   }
 }
@@ -133,13 +155,14 @@ void same_refusals(void) {
   confirm_refusals();
   read_back_refusals();
   decide_refusals();
+  feed_refusals();
   missing_samples();
 }
 
 void print_compared(void) {
   long calls = 0;
   for (int number = 0; number <= GORSEPETAL_NO_RELAY; number++) calls += answered[number];
-  printf("%ld calls made by the archive and by all four versions of plain C: the same answers, the same bytes written.\n", calls);
+  printf("%ld calls made by the archive and by all five versions of plain C: the same answers, the same bytes written.\n", calls);
   printf("Done: %ld. Refused", answered[GORSEPETAL_DONE]);
   const char *before = ": ";
   for (int number = GORSEPETAL_DONE + 1; number <= GORSEPETAL_NO_RELAY; number++)

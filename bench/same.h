@@ -7,8 +7,11 @@
 ** it; else the program ends with a message. */
 void same(which_call call, const lent *slices);
 
-/* The same for every refusal of the four calls, at every place, and for calls with several things wrong at once. */
+/* The same for every refusal of the calls, at every place, and for calls with several things wrong at once. */
 void same_refusals(void);
+
+/* The same for so many runs of calls: each goes on with the state that the one before left. */
+void same_runs(long runs);
 
 /* Prints how many calls were compared, and how many of them were refused with each number. */
 void print_compared(void);

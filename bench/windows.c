@@ -15,7 +15,7 @@ static int sine(int n) { return COSINES[(n + 12) % FRAMES]; }
 
 static uint32_t draw;
 
-static int drawn(int low, int high) {
+int drawn(int low, int high) {
   draw = draw * 1664525u + 1013904223u;
   return low + (int)((draw >> 8) % (uint32_t)(high - low + 1));
 }
@@ -67,6 +67,7 @@ static void put_sample(lent *window, int frame, int channel, int number) {
 void lend_fresh(lent *to) {
   memset(to, 0, sizeof *to);
   memset(to->out, 0xA5, sizeof to->out);
+  memset(to->state + STATE, 0xA5, BEYOND);
   to->state_len = STATE;
   to->out_len = DECISION;
 }
@@ -105,6 +106,21 @@ void lend_fault(lent *to, int ends) {
   lend_quiet(to, ends);
   wave(to, 0, 1000, 0);
   for (int end = 1; end <= ends; end++) wave(to, current(end, 0), 0, -20000);
+}
+
+/* Of a feed that is lent: where the number with this index in its 16 frames stands. The oldest frame in the state is not among them. */
+static uint8_t *fed_number(lent *feed, int index) {
+  int channels = channels_of(feed), newest = (FRAMES - 1) * channels;
+  return index < newest ? feed->state + GORSEPETAL_STATE_AT_NUMBERS + 2 * (channels + index) : feed->in + 2 * (index - newest);
+}
+
+void feed_newest(lent *window) {
+  lent feed = *window;
+  feed.in_len = (size_t)GORSEPETAL_FRAME_BYTES(ends_of(window));
+  memset(feed.in, 0, sizeof feed.in);
+  put(feed.state, GORSEPETAL_STATE_AT_COUNT, FRAMES - 1);
+  for (int index = 0; index <= last_sample(window); index++) memcpy(fed_number(&feed, index), window->in + 2 * index, 2);
+  *window = feed;
 }
 
 /* Every channel alike, or one sample of 1 and nothing else. The square waves have the largest components there are. */
@@ -161,18 +177,21 @@ void lend_nth(lent *to, which_call call, long n) {
   draw = (uint32_t)n * 2654435761u;
   put_nth_record(record, n);
   lend_fresh(to);
+  memset(to->state + GORSEPETAL_STATE_AT_COUNT, 0x5B, STATE - GORSEPETAL_STATE_AT_COUNT); /* a window to be left alone, or emptied */
   if (call == PROPOSE || call == CONFIRM) {
     memcpy(to->in, record, RECORD);
     to->in_len = RECORD;
   }
   if (call == CONFIRM) memcpy(to->state + RECORD, record, RECORD);
-  if (call == READ_BACK || call == DECIDE) memcpy(to->state, record, RECORD);
-  if (call == DECIDE) put_nth_window(to, n);
+  if (call == READ_BACK || call == DECIDE || call == FEED) memcpy(to->state, record, RECORD);
+  if (call == DECIDE || call == FEED) put_nth_window(to, n);
+  if (call == FEED) feed_newest(to);
 }
 
 void spoil(lent *slices, which_call call) {
-  if (call == DECIDE) {
-    miss(slices, drawn(0, last_sample(slices)));
+  if (call == DECIDE || call == FEED) {
+    int index = drawn(0, last_sample(slices));
+    put(call == DECIDE ? slices->in + 2 * index : fed_number(slices, index), 0, GORSEPETAL_MISSING);
     return;
   }
   uint8_t *record = call == READ_BACK ? slices->state : slices->in;

@@ -20,6 +20,12 @@ int ends_of(const lent *window);
 int last_sample(const lent *window);
 void miss(lent *window, int index);
 
+/* Makes feed of decide: the newest frame of the window that is lent is to be fed, and the fifteen before it have been. */
+void feed_newest(lent *window);
+
+/* A number from low to high, drawn; the same in every run. */
+int drawn(int low, int high);
+
 /* The nth call of a sequence that is the same in every run, every one accepted: extreme windows by extreme records first, then drawn ones;
 ** 2 to 6 ends by turns. Entries and read-back have the nth record. */
 void lend_nth(lent *to, which_call call, long n);

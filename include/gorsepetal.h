@@ -5,15 +5,15 @@
 **
 ** Contents: what the library is / in short / lent slices / the relay's state / what comes back /
 ** two entries / settings record / units / tests at the panel / what each field should be /
-** conventions / a line of three ends, worked out / window / decision / rules / a decision, worked
-** out / outside the library / limits / constants / the four calls.
+** conventions / a line of three ends, worked out / window / frame by frame / decision / rules /
+** a decision, worked out / outside the library / limits / constants / the five calls.
 **
 ** WHAT THE LIBRARY IS
 **
 ** libgorsepetal.a turns what the commissioning desk enters and one cycle of samples of the line
 ** into a decision. A settings record comes into force only when the same 32 bytes are proposed and
 ** then confirmed; it can be read back. Decide measures a window of samples by the record in force,
-** and says whether to trip and why.
+** and says whether to trip and why. Feed does the same with one frame every sample time.
 **
 ** The library keeps nothing between calls and allocates nothing. It calls nothing but memcpy and
 ** memset, which a C compiler may use in any code: the archive has no other undefined symbol. All
@@ -22,8 +22,9 @@
 ** convention. docs/CLAIMS.md says what is proved of its source, and what is only tested of the
 ** archive.
 **
-** A call takes less than 2 KiB of stack. How many instructions it takes depends on the ends of the
-** line, and has a bound. docs/BENCHMARKS.md has the figures, which are measured and not proved.
+** Feed takes less than 4 KiB of stack, every other call less than 2 KiB. How many instructions a
+** call takes depends on the ends of the line, and has a bound. docs/BENCHMARKS.md has the figures,
+** which are measured and not proved.
 **
 ** IN SHORT
 **
@@ -32,11 +33,14 @@
 **   if (gorsepetal_propose(relay, sizeof relay, first, first_len) == GORSEPETAL_DONE &&
 **       gorsepetal_confirm(relay, sizeof relay, second, second_len) == GORSEPETAL_DONE)
 **     in_force();
-**   if (gorsepetal_decide(relay, sizeof relay, window, window_len, out, sizeof out) ==
-**       GORSEPETAL_DONE)
+**
+** and then, with the newest frame, every sample time:
+**
+**   if (gorsepetal_feed(relay, sizeof relay, frame, frame_len, out, sizeof out) == GORSEPETAL_DONE)
 **     trip(out[GORSEPETAL_DECISION_AT_TRIP]);
 **
-** Only after an answer of 0 is there a decision. Link libgorsepetal.a.
+** or, with 16 frames at hand, gorsepetal_decide with this window in place of the frame. Only after
+** an answer of 0 is there a decision. Link libgorsepetal.a.
 **
 ** LENT SLICES
 **
@@ -46,33 +50,45 @@
 **     that is not null; it is never read or written through.
 **   - The slice lies within one object. It may begin at any address: nothing needs to be aligned.
 **   - The slices of a call do not overlap. During the call no other thread writes to any of them,
-**     nor reads one that is not const.
+**     nor reads one that is not const. So while feed runs, its state is lent to no other call.
 **   - A const slice is never written, whatever the answer.
 **
-** What a call does with slices that overlap is not promised. One overlap defeats the two entries:
-** an `entry` that points at the state's own pending bytes, state + GORSEPETAL_STATE_AT_PENDING,
-** confirms itself. So does a buffer that is kept from the proposal and lent once more. No call can
-** see either. The firmware has to lend confirm the bytes that a person entered the second time, in
-** a buffer that was filled anew.
+** What a call does with slices that overlap is not promised; so a `frame` or an `out` does not lie
+** in the state. One overlap defeats the two entries: an `entry` that points at the state's own
+** pending bytes, state + GORSEPETAL_STATE_AT_PENDING, confirms itself. So does a buffer that is
+** kept from the proposal and lent once more. No call can see either. The firmware has to lend
+** confirm the bytes that a person entered the second time, in a buffer that was filled anew.
 **
 ** THE RELAY'S STATE
 **
-** A relay is 64 bytes that the firmware owns, GORSEPETAL_STATE_LENGTH. All zero bytes are a fresh
-** relay: nothing in force and nothing pending. No call is needed to begin or to end with one.
+** A relay is 738 bytes that the firmware owns, GORSEPETAL_STATE_LENGTH. All zero bytes are a fresh
+** relay: nothing in force, nothing pending, no frame kept. Any other bytes are a relay too. No call
+** is needed to begin or to end with one.
 **
-**   bytes 0 to 31    the settings record in force
-**   bytes 32 to 63   the pending record: proposed and not yet confirmed
+**   bytes 0 to 31     the settings record in force
+**   bytes 32 to 63    the pending record: proposed and not yet confirmed
+**   bytes 64 to 65    the count of frames that feed has kept, 16 bits, upper byte first
+**   bytes 66 to 737   feed's window: 336 numbers of 16 bits, upper byte first
 **
 ** A record there that propose would refuse counts as absent, wherever its bytes came from; all zero
-** bytes are such a record. The firmware may keep the 64 bytes in permanent memory and lend them
-** again, and should not write to them otherwise. A byte damaged there is noticed only if the record
-** is then out of range: the record has no checksum. It is best to lend a copy in working memory and
-** to store it whole after the call: a call that is cut off midway, as by a loss of power, may leave
-** a record that is part old and part new.
+** bytes are such a record. A damaged byte of a record is noticed only if the record is then out of
+** range, and one of the window never: there is no checksum.
+**
+** Keep the state in working memory. After an entry store the two records, bytes 0 to 63, in
+** permanent memory, and after a restart lend them again with 674 zero bytes behind them. Do not
+** store the window: feed would put its frames before those that come after the restart. Do not lend
+** permanent memory itself: a call that is cut off midway, as by a loss of power, may leave a record
+** that is part old and part new. The firmware should write to the state in no other way, except
+** that zeros in bytes 64 to 737 empty feed's window.
 **
 ** A pending record that was stored can still be confirmed after a restart. To drop it, make an
-** entry of length 0, which is refused with 5. To take all settings away, begin again with 64 zero
+** entry of length 0, which is refused with 5. To take all settings away, begin again with 738 zero
 ** bytes.
+**
+** Version 1 had a state of 64 bytes, to which every call now answers 17. With 674 zero bytes behind
+** them they are a relay: the record in force stays in force, a pending one stays pending, and no
+** frame is kept. Or read the record back with the old library, and propose and confirm it in a
+** fresh relay.
 **
 ** WHAT COMES BACK
 **
@@ -80,26 +96,30 @@
 ** GORSEPETAL_NUMBER and GORSEPETAL_PLACE take them apart: 776 is 8 at 3. GORSEPETAL_ stands before
 ** each name.
 **
-**   number  name                 when                      place                 given by
-**   0       DONE                 done                      0                     every call
-**   1       NO_SETTINGS          no settings in force      0                     decide, read_back
-**   2       OTHER_WINDOW_LENGTH  window of another length  0                     decide
-**   3       NO_ROOM              room below 32 bytes       0                     decide, read_back
-**   4       MISSING_SAMPLE       a sample is missing       index of the first    decide
-**   5       OTHER_ENTRY_LENGTH   entry not 32 bytes        0                     propose, confirm
-**   6       OUT_OF_RANGE         a field is out of range   offset of the field   propose
-**   7       NOTHING_PENDING      nothing is pending        0                     confirm
-**   8       DIFFERS              confirmation differs      first differing byte  confirm
-**   17      NO_RELAY             state not 64 bytes        0                     every call
+**   number  name                 when                      place            given by
+**   0       DONE                 done                      0                every call
+**   1       NO_SETTINGS          no settings in force      0                read_back, decide, feed
+**   2       OTHER_WINDOW_LENGTH  window of another length  0                decide
+**   3       NO_ROOM              room below 32 bytes       0                read_back, decide, feed
+**   4       MISSING_SAMPLE       a sample is missing       index of first   decide, feed
+**   5       OTHER_ENTRY_LENGTH   entry not 32 bytes        0                propose, confirm
+**   6       OUT_OF_RANGE         a field is out of range   offset of field  propose
+**   7       NOTHING_PENDING      nothing is pending        0                confirm
+**   8       DIFFERS              confirmation differs      offset of first  confirm
+**   9       OTHER_FRAME_LENGTH   frame of another length   0                feed
+**   10      TOO_FEW_FRAMES       fewer than 16 frames yet  0                feed
+**   17      NO_RELAY             state not 738 bytes       0                every call
 **
 ** Each number is given back in its own condition and in no other. These calls give no other number;
-** 9 to 16 are not in use. Where several conditions hold, the first in the call's order of checks is
-** given.
+** 11 to 16 are not in use. Where several conditions hold, the first in the call's order of checks
+** is given. In the place of 4 an index counts the window's numbers from 0; in those of 6 and 8 an
+** offset counts the record's bytes.
 **
 ** TWO ENTRIES
 **
-** A record comes into force only by two entries with no other entry between them. Decide and
-** read-back are no entries and change nothing, so they may come between; so may a call answered 17.
+** A record comes into force only by two entries with no other entry between them. Decide, feed and
+** read-back are no entries and change no record, so they may come between; so may a call answered
+** 17.
 **
 **                       propose, done                    confirm, done
 **   +-----------+     ---------------->   +-----------+   ------------->   the record is in force,
@@ -111,7 +131,8 @@
 **
 **   propose, done (0)                the entry is pending, in place of any earlier pending record
 **   propose, refused (5, 6)          nothing is pending
-**   confirm, done (0)                the pending record is in force, and nothing is pending
+**   confirm, done (0)                the pending record is in force, nothing is pending, and feed's
+**                                    window is empty
 **   confirm, refused (5, 7, 8)       nothing is pending
 **   17, from any call                nothing has changed: no relay was lent
 **
@@ -260,7 +281,7 @@
 **     what would leave -32767 to 32767 is clipped there.
 **   - The largest current has to fit, with its offset: 32767 counts are 32767 / (1.4142 ci)
 **     amperes, and half of that where the offset is full.
-**   - All samples of a frame are of one moment. Clocks are aligned before decide is called.
+**   - All samples of a frame are of one moment. Clocks are aligned before decide or feed is called.
 **
 ** A current transformer that is reversed at one end looks like this. Under load the differential
 ** is twice that end's current. On a line of two ends that is 100 percent of the restraint, so the
@@ -315,10 +336,56 @@
 **   frame 15     180 181 182   183 184 185   186 187 188   189 190 191
 **
 ** The number of frame f and channel c, both counted from 0, has the index (3 + 3N)f + c, and its
-** two bytes begin at twice that. A window may begin at any frame, and windows may overlap: decide
-** may be called with every new frame, each time on the newest 16. The number -32768,
-** GORSEPETAL_MISSING, bytes 80 00, marks a missing sample; it serves for frames that have not come
-** yet, too. A converter has to clip at -32767 and 32767: see LIMITS.
+** two bytes begin at twice that. A window may begin at any frame, and windows may overlap. The
+** number -32768, GORSEPETAL_MISSING, bytes 80 00, marks a missing sample; it serves for frames that
+** have not come yet, too. A converter has to clip at -32767 and 32767: see LIMITS.
+**
+** FRAME BY FRAME
+**
+** Feed is for firmware that has one frame every sample time. It is handed the newest frame, 3 + 3N
+** numbers in GORSEPETAL_FRAME_BYTES(N) bytes, and keeps it in the state. Then it gives back what
+** decide would for the newest 16 frames, the oldest first: the same number, place and 32 bytes.
+**
+** In the state the first 16(3 + 3N) of the 336 numbers are 16 frames. With each frame that is kept
+** they move on: the oldest goes, and the newest stands last. The numbers behind stay as they were
+** and have no part in a decision. For two ends:
+**
+**   bytes   64 to 65    66 to 83          84 to 101   ..   336 to 353         354 to 737
+**           the count   frame 0, oldest   frame 1          frame 15, newest   behind
+**
+** A confirmation answered 0 empties the window: the count and all 336 numbers are 0. Feed answers
+** 10 to the next 15 frames, and decides at the 16th. So after a confirmation in service there is no
+** decision by feed for 15 sample times, 18.75 ms at 50 Hz and 15.625 ms at 60 Hz. Decide is not
+** affected: its window is lent.
+**
+** A frame with a missing sample is kept too. Feed answers 4 for as long as the sample is among the
+** 16, which is 16 frames in a row, and its place falls by 3 + 3N with each. A sample that is
+** missing in one of the first 15 frames shows at the 16th: 10 stands before 4.
+**
+**   uint8_t frame[GORSEPETAL_FRAME_BYTES(2)], out[GORSEPETAL_DECISION_LENGTH];
+**
+**   while (next_frame(frame)) {           (waits for the sample time)
+**     uint64_t given = gorsepetal_feed(relay, sizeof relay, frame, sizeof frame, out, sizeof out);
+**     switch (GORSEPETAL_NUMBER(given)) {
+**     case GORSEPETAL_DONE:               (decided, on this frame and the 15 before it)
+**       trip(out[GORSEPETAL_DECISION_AT_TRIP]);
+**       break;
+**     case GORSEPETAL_TOO_FEW_FRAMES:     (kept: the window fills)
+**     case GORSEPETAL_MISSING_SAMPLE:     (kept: GORSEPETAL_PLACE(given) says which is missing)
+**       no_decision(given);
+**       break;
+**     default:                            (17, 1, 9, 3: not kept)
+**       not_kept(given);
+**     }
+**   }
+**
+** After 0, 4 and 10 go on with the next frame. After 17, 9 and 3 hand the same frame over again, in
+** its own sample time: with all 738 bytes of the state, with the 3 + 3N numbers for the N that
+** read_back shows, with 32 bytes of room. After 1 a record has to be proposed and confirmed.
+**
+** Feed has no clock. It takes the frames that it is handed for neighbours, and does not notice one
+** that it was never handed. In the place of a lost frame hand over one of missing samples alone: 4
+** comes for 16 frames. After a longer gap write zeros to bytes 64 to 737: 10 comes for 15 frames.
 **
 ** DECISION
 **
@@ -426,10 +493,13 @@
 **     every end.
 **   - While a far end's samples are missing there is no decision at all, not even by distance.
 **     Zeros in their place would look like a fault on the line. One missing sample is in 16 windows
-**     in a row. What the relay does meanwhile is the firmware's matter.
+**     in a row. What the relay does meanwhile, or while feed answers 10, is the firmware's matter.
 **   - One window is one cycle, and one decision is of one window. A window that lies across the
-**     beginning of a fault is part load and part fault. How many decisions in a row to trust, and
-**     how long to hold a trip, is the firmware's matter.
+**     beginning of a fault is part load and part fault. Feed decides 16 times a cycle, and holds
+**     nothing from one decision to the next. How many decisions in a row to trust, and how long to
+**     hold a trip, is the firmware's matter.
+**   - A frame that feed was never handed, or was handed twice, is not detected. The waves in the
+**     window then have a step, and the phasors are wrong until it has passed, 15 frames later.
 **
 ** What the transform of one cycle sees, for a wave of peak 1:
 **   - Another frequency. At 0.98 of the nominal one (49 Hz for 50) the magnitude reads between
@@ -455,19 +525,20 @@ extern "C" {
 #endif
 
 /* The version of this file and of the archive: text, and 10000 major + 100 minor + patch. */
-#define GORSEPETAL_VERSION "1.0.0"
-#define GORSEPETAL_VERSION_NUMBER 10000
+#define GORSEPETAL_VERSION "2.0.0"
+#define GORSEPETAL_VERSION_NUMBER 20000
 
 /* Lengths in bytes: a relay's state, a settings record and a decision. */
-#define GORSEPETAL_STATE_LENGTH 64
+#define GORSEPETAL_STATE_LENGTH 738
 #define GORSEPETAL_RECORD_LENGTH 32
 #define GORSEPETAL_DECISION_LENGTH 32
 
-/* A window: its frames, the numbers of a frame of a line with so many ends, the bytes of the whole.
-** The longest, that of six ends, in numbers. The place of a missing sample, divided by
-** GORSEPETAL_CHANNELS, is its frame; what is left over is its channel. */
+/* A window: its frames, the numbers and the bytes of a frame of a line with so many ends, the bytes
+** of the whole. The longest, that of six ends, in numbers. The place of a missing sample, divided
+** by GORSEPETAL_CHANNELS, is its frame; what is left over is its channel. */
 #define GORSEPETAL_FRAMES 16
 #define GORSEPETAL_CHANNELS(ends) (3 + 3 * (ends))
+#define GORSEPETAL_FRAME_BYTES(ends) (2 * (3 + 3 * (ends)))
 #define GORSEPETAL_WINDOW_BYTES(ends) (2 * 16 * (3 + 3 * (ends)))
 #define GORSEPETAL_LONGEST_WINDOW_NUMBERS 336
 
@@ -475,9 +546,12 @@ extern "C" {
 #define GORSEPETAL_MISSING (-32768)
 #define GORSEPETAL_LARGEST_SAMPLE 32767
 
-/* The offset of each record in the state. */
+/* The offset of each part of the state: the two records, and the count and the numbers of feed's
+** window. */
 #define GORSEPETAL_STATE_AT_IN_FORCE 0
 #define GORSEPETAL_STATE_AT_PENDING 32
+#define GORSEPETAL_STATE_AT_COUNT 64
+#define GORSEPETAL_STATE_AT_NUMBERS 66
 
 /* The offset of each field of a settings record. */
 #define GORSEPETAL_AT_ENDS 0
@@ -532,6 +606,8 @@ extern "C" {
 #define GORSEPETAL_OUT_OF_RANGE 6
 #define GORSEPETAL_NOTHING_PENDING 7
 #define GORSEPETAL_DIFFERS 8
+#define GORSEPETAL_OTHER_FRAME_LENGTH 9
+#define GORSEPETAL_TOO_FEW_FRAMES 10
 #define GORSEPETAL_NO_RELAY 17
 
 /* The two parts of what a call gave back. */
@@ -541,18 +617,18 @@ extern "C" {
 /*
 ** Propose a settings record: the first of the two entries.
 **
-**   state   the relay, 64 bytes; changed as said below
+**   state   the relay, 738 bytes; changed as said below
 **   entry   the record, 32 bytes
 **
 ** Checked in this order:
-**   17              state_len is not 64; nothing is changed
+**   17              state_len is not 738; nothing is changed
 **   5  at 0         entry_len is not 32
 **   6  at offset    the first field of the entry that is out of range
 **
 ** Done (0): the entry is pending, in place of any earlier pending record.
 ** Refused with 5 or 6: nothing is pending any more; bytes 32 to 63 of the state are zero, whatever
 ** they held.
-** Either way bytes 0 to 31, the record in force, stay as they were.
+** Either way all other bytes stay as they were: the record in force, and feed's window.
 */
 uint64_t gorsepetal_propose(uint8_t *state, size_t state_len, const uint8_t *entry,
                             size_t entry_len);
@@ -560,20 +636,22 @@ uint64_t gorsepetal_propose(uint8_t *state, size_t state_len, const uint8_t *ent
 /*
 ** Confirm the pending record by entering it again: the second of the two entries.
 **
-**   state   the relay, 64 bytes; changed as said below
+**   state   the relay, 738 bytes; changed as said below
 **   entry   the same 32 bytes as were proposed, entered anew
 **
 ** Checked in this order:
-**   17              state_len is not 64; nothing is changed
+**   17              state_len is not 738; nothing is changed
 **   5  at 0         entry_len is not 32
 **   7  at 0         nothing is pending, or what is stored as pending is a record that propose would
 **                   refuse
 **   8  at offset    the entry differs from the pending record, first at this offset
 **
-** Done (0): bytes 0 to 31 of the state are the entry, now in force, and bytes 32 to 63 are zero.
+** Done (0): bytes 0 to 31 of the state are the entry, now in force, and bytes 32 to 737 are zero:
+** nothing is pending, and feed's window is empty, also where it was the record in force once more.
+** Feed answers 10 to the next 15 frames, so there is no decision by feed for 15/16 of a cycle.
 ** Refused with 5, 7 or 8: nothing is pending any more; bytes 32 to 63 are zero, whatever they held,
-** and bytes 0 to 31 stay as they were. So after a mismatch both entries have to be made again: a
-** third entry cannot confirm.
+** and all others stay as they were. So after a mismatch both entries have to be made again: a third
+** entry cannot confirm.
 */
 uint64_t gorsepetal_confirm(uint8_t *state, size_t state_len, const uint8_t *entry,
                             size_t entry_len);
@@ -581,11 +659,11 @@ uint64_t gorsepetal_confirm(uint8_t *state, size_t state_len, const uint8_t *ent
 /*
 ** Read back the settings in force.
 **
-**   state   the relay, 64 bytes; never changed
+**   state   the relay, 738 bytes; never changed
 **   out     room for the record, 32 bytes or more
 **
 ** Checked in this order:
-**   17              state_len is not 64
+**   17              state_len is not 738
 **   1  at 0         no settings are in force, or what is stored there is a record that propose
 **                   would refuse
 **   3  at 0         out_len is below 32
@@ -599,12 +677,12 @@ uint64_t gorsepetal_read_back(const uint8_t *state, size_t state_len, uint8_t *o
 /*
 ** Decide on a window by the settings in force.
 **
-**   state     the relay, 64 bytes; never changed
+**   state     the relay, 738 bytes; never changed
 **   samples   the window, of the length for the ends N of the record in force; never changed
 **   out       room for the decision, 32 bytes or more
 **
 ** Checked in this order:
-**   17              state_len is not 64
+**   17              state_len is not 738
 **   1  at 0         no settings are in force, or what is stored there is a record that propose
 **                   would refuse
 **   2  at 0         samples_len is not GORSEPETAL_WINDOW_BYTES(N); so every odd length, and that of
@@ -615,10 +693,42 @@ uint64_t gorsepetal_read_back(const uint8_t *state, size_t state_len, uint8_t *o
 **
 ** Done (0): the first 32 bytes of out are the decision; later ones stay as they were.
 ** Refused: nothing is written to out, and there is no decision: out still holds the one before.
-** A pending record has no part in it: the record in force decides until another is confirmed.
+** A pending record has no part in it: the record in force decides until another is confirmed. Nor
+** has feed's window.
 */
 uint64_t gorsepetal_decide(const uint8_t *state, size_t state_len, const uint8_t *samples,
                            size_t samples_len, uint8_t *out, size_t out_len);
+
+/*
+** Hand over the newest frame, and decide on the newest 16 by the settings in force.
+**
+**   state   the relay, 738 bytes; changed as said below
+**   frame   the newest frame, of the length for the ends N of the record in force; never changed
+**   out     room for the decision, 32 bytes or more
+**
+** Checked in this order:
+**   17              state_len is not 738
+**   1  at 0         no settings are in force, or what is stored there is a record that propose
+**                   would refuse
+**   9  at 0         frame_len is not GORSEPETAL_FRAME_BYTES(N); so every odd length, and that of a
+**                   frame of other ends
+**   3  at 0         out_len is below 32, also where nothing would be written
+**   10 at 0         fewer than 16 frames are kept, this one counted
+**   4  at index     a sample is missing among the newest 16 frames: the first, by its index among
+**                   their numbers, the oldest frame first
+**
+**   answer         state                                        out
+**   17, 1, 9, 3    as it was: the frame is not kept             as it was
+**   10, 4          the frame is kept                            as it was: no decision
+**   0              the frame is kept                            first 32 bytes: the decision
+**
+** Kept: of the first 16(3 + 3N) numbers, from byte 66 on, the first 3 + 3N go, and the frame's
+** stand last. The count, bytes 64 and 65, becomes one more and at most 16; a count above 16 reads
+** as 16. All other bytes of the state stay as they were, and so do later bytes of out.
+** A pending record has no part in it: the record in force decides until another is confirmed.
+*/
+uint64_t gorsepetal_feed(uint8_t *state, size_t state_len, const uint8_t *frame, size_t frame_len,
+                         uint8_t *out, size_t out_len);
 
 #ifdef __cplusplus
 }

@@ -2,17 +2,22 @@
 """Holds the header and the documents to what is in the tree.
 
 - include/gorsepetal.h declares the exported functions of crates/gorsepetal, and no others; its constants are those of the crates and of
-  their definitions, and no others; its version is the newest of docs/CHANGES.md. In its manual the tables of numbers, of fields, of the
-  window, of a decision and of the loops and the formulas of the rules have the source's figures, the limits those of the transform, the
-  worked record follows from its own formulas, and the worked decision from the independent program.
+  their definitions, and no others; its version is the newest of docs/CHANGES.md. Its manual names nothing of the library that it does not
+  declare. In it the tables of numbers, of fields, of the state, of the window, of a decision and of the loops, each call's list of checks,
+  what is said of feed and the formulas of the rules have the source's figures and order, the limits those of the transform, the worked
+  record follows from its own formulas, and the worked decision from the independent program.
+- What docs/RULES.md and the manual say that an answer leaves of the state and of the lent room is what the independent program leaves.
 - In README.md, docs/ and tests/independent/README.md each path in backticks is there (`*` stands for any name), and each link leads to a
   file and a heading that are. In README.md and docs/, in `name` in `path`, or `a`, `b` in `path`, each name is declared in that file; below
   a paragraph "Files:" each name is declared in one of its files, and each of these declares a name there. The commands that README.md shows
-  are there, and what it shows as printed is an example's. Code, laws and edits that a page quotes stand so in the crates.
+  are there, and what it shows as printed is an example's. Code, laws and edits that a page quotes stand so in the crates. What README.md and
+  the newest version in docs/CHANGES.md say of the state and of the header's names is so.
 - docs/CLAIMS.md: its table names each promise of the one statement in crates/claims, below the file that proves it, and the one statement
   has every statement of that crate; the counts of assumed C functions are those that the checks of the crates gave, which must all have
   been proved here.
 - docs/WRONG-RELAYS.md: it names each must-fail edit below its crate, in the order of the layers, and no other.
+- docs/HAND-CHECKS.md: its sums come out; its example of feed, and its tables of several faults at once, say what the independent program
+  does.
 - docs/RULES.md: its rules are numbered, and each says by which request it stands and names definitions, which have its figures, or for a
   rule of ours a section of the manual; its tables and drawings say what the source says; its examples follow from their formulas.
 - crates.txt names what each crate uses, and nothing more.
@@ -25,8 +30,10 @@ sys.dont_write_bytecode = True
 import axioms  # noqa: E402
 import boundary  # noqa: E402
 import documents  # noqa: E402
+import hand_checks  # noqa: E402
 import header  # noqa: E402
 import layers  # noqa: E402
+import left  # noqa: E402
 import lines  # noqa: E402
 import manual  # noqa: E402
 import promises  # noqa: E402
@@ -41,7 +48,10 @@ def main():
         'constants': header.check_constants(),
         'macros': header.check_macros(),
         'lines of the header': manual.check_columns(),
+        'names in the manual': manual.check_names(),
         'numbers in the manual': manual.check_number_table(),
+        'parts of the state in the manual': manual.check_state(),
+        'figures of feed in the manual': manual.check_feeding(),
         'fields in the manual': manual.check_settings_table(),
         'lines of the window in the manual': manual.check_window(),
         'parts of a decision in the manual': manual.check_decision_table(),
@@ -51,6 +61,10 @@ def main():
         'settings worked out in the manual': worked.check_example(),
         'steps of the decision worked out in the manual': worked.check_decision(),
         'tests at the panel': worked.check_tests(),
+        'rows on what an answer leaves': left.check_left(),
+        'sums in the hand checks': hand_checks.check_sums(),
+        'steps of feed in the hand checks': hand_checks.check_fed(),
+        'answers to several faults at once': hand_checks.check_orders(),
         'rules': rules.check_rules(),
         'figures in the rules': rules.check_figures(),
         'fields in the rules': rules.check_settings(),
@@ -61,6 +75,8 @@ def main():
         'paths': documents.check_paths(),
         'links': documents.check_links(),
         'names': documents.check_names(),
+        'names of the library': documents.check_symbols(),
+        'pages on the state': documents.check_relay(),
         'promises': promises.check_promises(),
         'must-fail edits': documents.check_edits(),
         'quotations': documents.check_quoted(),

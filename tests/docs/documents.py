@@ -186,6 +186,45 @@ def check_names():
     return count
 
 
+# What C sees
+
+
+def newest():
+    """The part of docs/CHANGES.md on the newest version."""
+    m = re.search(r'^## .*?(?=^## |\Z)', document(header.CHANGES), flags=re.DOTALL | re.MULTILINE)
+    return m[0] if m else ''
+
+
+def check_symbols():
+    """Each name of the library in a page is one that C sees; and where docs/CHANGES.md has a constant's number for the newest version, it is
+    the header's."""
+    count, symbols, constants = 0, set(re.findall(r'\w+', header.header())), header.wanted_constants()
+    for page in documents():
+        text = document(page)
+        for m in re.finditer(r'`((?:GORSEPETAL|gorsepetal)_\w*\w)`', text):
+            count += 1
+            if m[1] not in symbols and m[1] not in layers.direct() and not m[1].endswith('_'):
+                fault(page, text, m.start(), f'`{m[1]}` is not in {header.HEADER}')
+    said = re.findall(r'(\d+), `GORSEPETAL_(\w+)`', newest()) + [pair[::-1] for pair in re.findall(r'`GORSEPETAL_(\w+)` is (\d+)', newest())]
+    faults.extend(f'{header.CHANGES}: GORSEPETAL_{name} is said to be {number}' for number, name in said if constants.get(name) != int(number))
+    return count
+
+
+def check_relay():
+    """What README.md says of the relay's state and of feed; and in the newest version of docs/CHANGES.md, where bytes of the state or frames
+    are counted, their count."""
+    *begins, length = header.state_offsets()
+    records, empty, text = begins[2], header.constants('samples')['FRAMES'] - 1, newest()
+    wanted = f'a relay is {length} bytes', f'for {empty} frames after it there is no decision by feed'
+    faults.extend(f'{README}: it does not say "{words}"' for words in wanted if words not in ' '.join(document(README).split()))
+    parts = re.findall(r'\bbytes (\d+) to (\d+)', text)
+    wrong = [f'{number} bytes' for number in re.findall(r'\b(\d+)(?: zero)? bytes', text) if int(number) not in (records, length - records, length)]
+    wrong += [f'bytes {first} to {last}' for first, last in parts if int(first) not in begins or int(last) + 1 not in (*begins, length)]
+    wrong += [f'{number} frames' for number in re.findall(r'\b(\d+) frames', text) if int(number) not in (empty, empty + 1)]
+    faults.extend(f'{header.CHANGES}: {words} are not what the state has' for words in wrong)
+    return 2 + len(parts)
+
+
 # Must-fail edits
 
 

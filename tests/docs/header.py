@@ -1,11 +1,15 @@
 """Holds what a compiler reads of include/gorsepetal.h to the source: its prototypes, its constants and its macros."""
+import math
 import re
+from functools import cache
 from pathlib import Path
 
 from tree import blank, fault, faults, read, sources
 
 HEADER = Path('include/gorsepetal.h')
 CHANGES = Path('docs/CHANGES.md')
+GIVEN_BACK = Path('crates/claims/specs/GivenBack.antt')
+STORED = Path('crates/stream/specs/Stored.antt')
 C_TYPES = {'usize': 'size_t', **{f'{kind}{bits}': f'{"u" * (kind == "u")}int{bits}_t' for kind in 'ui' for bits in (8, 16, 32, 64)}}
 
 
@@ -70,20 +74,23 @@ def number(text):
     return int(m.group(1), 0) if m else None
 
 
+@cache
 def constants(crate, file='lib.rt'):
-    """The constants of a crate's file, by name. A value is a sum of numbers, of constants before it and of other crates' constants, as in
-    `entry::RECORD_LENGTH`."""
-    found = {}
+    """The constants of a crate's file, by name. A value is a sum of products of numbers and of constants: its own, those that it takes in by
+    `use`, and other crates', as in `entry::RECORD_LENGTH`."""
     text = blank(r'//[^\n]*', read(Path('crates') / crate / 'src' / file))
-    for m in re.finditer(r'\bconst\s+(\w+)\s*:\s*\w+\s*=\s*([^;]+);', text):
-        values = [constant(word.strip(), found) for word in m.group(2).split('+')]
-        found[m.group(1)] = None if None in values else sum(values)
-    return found
+    written = dict(re.findall(r'\bconst\s+(\w+)\s*:\s*\w+\s*=\s*([^;]+);', text))
+    taken = {name: other for other, name in re.findall(r'^use (\w+)::([A-Z_]+);', text, flags=re.MULTILINE)}
 
+    def value(word):
+        other = re.fullmatch(r'(\w+)::(\w+)', f'{taken[word]}::{word}' if word in taken else word)
+        return total(written[word]) if word in written else constants(other[1]).get(other[2]) if other else number(word)
 
-def constant(word, known):
-    other = re.fullmatch(r'(\w+)::(\w+)', word)
-    return constants(other.group(1)).get(other.group(2)) if other else known.get(word, number(word))
+    def total(expression):
+        terms = [[value(word.strip()) for word in term.split('*')] for term in expression.split('+')]
+        return None if any(None in term for term in terms) else sum(map(math.prod, terms))
+
+    return {name: total(expression) for name, expression in written.items()}
 
 
 def public(crate, file='lib.rt'):
@@ -93,7 +100,7 @@ def public(crate, file='lib.rt'):
 
 def definition(path, name):
     """The text of a definition in specs/, its equations in one line."""
-    m = re.search(rf'^{name} [^:\n]*=((?:.*\n)(?:[ ]+.*\n)*)', blank(r'--[^\n]*', read(Path(path))), flags=re.MULTILINE)
+    m = re.search(rf'^{name} [^:=\n]*=((?:.*\n)(?:[ ]+.*\n)*)', blank(r'--[^\n]*', read(Path(path))), flags=re.MULTILINE)
     return ' '.join(m.group(1).split()) if m else ''
 
 
@@ -138,6 +145,31 @@ def decision_offsets():
     return found
 
 
+def state_offsets():
+    """Where each part of the state begins, the two records and the count and the numbers of the window, and where the last one ends."""
+    relay = constants('gorsepetal')
+    numbers = re.search(r'drop \(at \+ (\d+)\) state', definition(STORED, 'windowAt'))
+    if not numbers:
+        faults.append(f'{STORED}: `windowAt` has a form that this check does not know')
+    return [relay['MAIN'], relay['PENDING'], relay['WINDOW'], relay['WINDOW'] + int(numbers[1] if numbers else 0), relay['STATE_LENGTH']]
+
+
+@cache
+def answers():
+    """Each call with the numbers that it gives, in its order of checks, each with whether it has a place: the rows of crates/claims."""
+    found = {}
+    for m in re.finditer(r'^pub data (\w+)Row .*?\n(.*?)(?=^\S|\Z)', read(GIVEN_BACK), flags=re.DOTALL | re.MULTILINE):
+        call = re.sub(r'(?<=.)([A-Z])', r'_\1', m[1]).lower()
+        rows = re.findall(rf'{m[1]}Row \w+ \w+(?: \w+)? (?:(\d+)|\(256 \* k \+ (\d+)\))$', m[2], flags=re.MULTILINE)
+        found[call] = {int(plain or placed): bool(placed) for plain, placed in rows}
+    return found
+
+
+def placed():
+    """The numbers that have a place."""
+    return {number for call in answers().values() for number, has_place in call.items() if has_place}
+
+
 def version():
     """The newest version of docs/CHANGES.md, as text and as a number."""
     m = re.search(r'^## (\d+)\.(\d+)\.(\d+)\b', read(CHANGES), flags=re.MULTILINE)
@@ -147,14 +179,15 @@ def version():
 
 def wanted_constants():
     """Each constant that the header should have: public ones of the source, and what the definitions say."""
-    samples, relay = constants('samples'), constants('gorsepetal')
+    samples = constants('samples')
+    in_force, pending, count, numbers, _ = state_offsets()
     phases = weights('crates/differential/specs/Differential.antt', 'operatingBits')
     loops = weights('crates/distance/specs/Mho.antt', 'loopBits')
     return {
         **version(), **public('answers'), **public('gorsepetal'),
         **{f'AT_{name}': value for name, value in public('settings', 'at.rt').items()},
         'FRAMES': samples['FRAMES'], 'MISSING': samples['MISSING'], 'LARGEST_SAMPLE': -samples['MISSING'] - 1,
-        'STATE_AT_IN_FORCE': relay['MAIN'], 'STATE_AT_PENDING': relay['PENDING'], **decision_offsets(),
+        'STATE_AT_IN_FORCE': in_force, 'STATE_AT_PENDING': pending, 'STATE_AT_COUNT': count, 'STATE_AT_NUMBERS': numbers, **decision_offsets(),
         **{f'PHASE_{name}': bit for name, bit in phases.items()}, **{f'LOOP_{name}': bit for name, bit in loops.items()}, **directions(),
     }
 
@@ -180,13 +213,14 @@ def macro(name, argument, text):
 
 
 def check_macros():
-    """The macros that reckon, at values that tell: a frame's numbers and a window's bytes for each number of ends, and what a call gives back
-    taken apart."""
+    """The macros that reckon, at values that tell: a frame's numbers and bytes and a window's bytes for each number of ends, and what a call
+    gives back taken apart."""
     text, source = header(), ' '.join(text for _, text in sources('answers', 'gorsepetal', 'samples'))
     weight = number(re.search(r'\bconst PLACE_WEIGHT: u64 = (\d+);', source).group(1))
     frames = constants('samples')['FRAMES']
     wanted = {('WINDOW_BYTES', ends): 2 * frames * (3 + 3 * ends) for ends in range(2, 7)}
     wanted |= {('CHANNELS', ends): 3 + 3 * ends for ends in range(2, 7)}
+    wanted |= {('FRAME_BYTES', ends): 2 * (3 + 3 * ends) for ends in range(2, 7)}
     wanted |= {('NUMBER', given): given % weight for given in (0, 17, 335 * weight + 4)}
     wanted |= {('PLACE', given): given // weight for given in (0, 17, 335 * weight + 4)}
     if wanted['WINDOW_BYTES', 6] != 2 * public('gorsepetal')['LONGEST_WINDOW_NUMBERS']:

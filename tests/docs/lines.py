@@ -11,7 +11,7 @@ from tree import ROOT, faults, read  # noqa: E402
 
 ARCHITECTURE = Path('docs/ARCHITECTURE.md')
 PARTS = ('src', 'specs', 'proofs')
-MOST_IN_A_CRATE, MOST_IN_ALL = 10, 4
+MOST_IN_A_CRATE, MOST_IN_ALL = 10, 4.5
 
 
 def files(crate, part):

@@ -6,7 +6,7 @@ import re
 from itertools import groupby
 from pathlib import Path
 
-from header import HEADER, constants, decision_offsets, directions, six_loops, weights
+from header import HEADER, answers, constants, decision_offsets, directions, header, placed, public, six_loops, state_offsets, weights
 from tree import blank, fault, faults, read
 
 TABLE = Path('crates/settings/specs/Table.antt')
@@ -22,9 +22,19 @@ def section(title):
     return m.group(1) if m else ''
 
 
+def words(text):
+    """The words of a comment, a space between any two."""
+    return ' '.join(re.sub(r'^\*\*', '', text, flags=re.MULTILINE).split())
+
+
 def plain(title):
-    """A section's words, a space between any two."""
-    return ' '.join(re.sub(r'^\*\*', '', section(title), flags=re.MULTILINE).split())
+    """A section's words."""
+    return words(section(title))
+
+
+def comments():
+    """The comment above each call, by the call's name."""
+    return {m[2]: m[1] for m in re.finditer(r'/\*((?:(?!\*/).)*)\*/\s*uint64_t gorsepetal_(\w+)\(', read(HEADER), flags=re.DOTALL)}
 
 
 def check_columns():
@@ -37,19 +47,100 @@ def check_columns():
 
 
 def check_number_table():
-    """The table of numbers is that of crates/answers; each call's list of checks has the numbers that the table says it gives, in
-    document 01's order."""
-    text, wanted = read(HEADER), {name: value for name, value in constants('answers').items() if name != 'PLACE_WEIGHT'}
-    rows = list(re.finditer(r'^\*\*   (\d+)\s+([A-Z_]+)\s.*\s{2,}(\S.*)$', section('WHAT COMES BACK'), flags=re.MULTILINE))
-    found = {m.group(2): int(m.group(1)) for m in rows}
+    """The table of numbers is that of crates/answers: each with its name, a place where it has one, and the calls that give it. Each call's
+    comment lists its checks in their order, each with or without a place. The numbers that are said to be free are."""
+    text, given = section('WHAT COMES BACK'), answers()
+    rows = re.findall(r'^\*\*   (\d+)\s+([A-Z_]+)\s.*?\s{2,}(0|index of first|offset of \w+)\s{2,}(\S.*)$', text, flags=re.MULTILINE)
+    found = [(int(number), name, place != '0', calls) for number, name, place, calls in rows]
+    wanted = []
+    for name, number in public('answers').items():
+        calls = [call for call in given if number in given[call]]
+        wanted.append((number, name, number in placed(), 'every call' if calls == [*given] else ', '.join(calls)))
     if found != wanted:
-        faults.append(f'{HEADER}: the table of numbers has {found}; crates/answers has {wanted}')
-    for m in re.finditer(r'/\*((?:(?!\*/).)*)\*/\s*uint64_t gorsepetal_(\w+)\(', text, flags=re.DOTALL):
-        listed = [int(n) for n in re.findall(r'^\*\*   (\d+)\s+(?:at|state_len)', m.group(1), flags=re.MULTILINE)]
-        given = {int(row.group(1)) for row in rows if m.group(2) in row.group(3).split(', ') or row.group(3) == 'every call'} - {0}
-        if listed != [17, *sorted(given - {17})]:  # 17 stands before all others; the others go up
-            fault(HEADER, text, m.start(), f'{m.group(2)} lists the checks {listed}; the table of numbers gives it {sorted(given)}')
+        faults.append(f'{HEADER}: the table of numbers has {found}; the source has {wanted}')
+    free = [number for number in range(18) if number not in public('answers').values()]
+    if free and f'{free[0]} to {free[-1]} are not in use' not in plain('WHAT COMES BACK'):
+        faults.append(f'{HEADER}: WHAT COMES BACK does not say that {free[0]} to {free[-1]} are not in use')
+    for call, comment in comments().items():
+        listed = re.findall(r'^\*\*   (\d+) +(?:at (0|index|offset)|state_len) ', comment, flags=re.MULTILINE)
+        order = [(number, placed) for number, placed in given.get(call, {}).items() if number]
+        if [(int(number), place not in ('', '0')) for number, place in listed] != order:
+            faults.append(f'{HEADER}: {call} lists the checks {listed}; the source has {order}')
+    if comments().keys() != given.keys():
+        faults.append(f'{HEADER}: {[*comments()]} have a comment; the source has {[*given]}')
     return len(rows)
+
+
+# The state and feed
+
+
+def check_state():
+    """The parts of the state as they are drawn. Where the manual and the calls' comments speak of bytes of the state, they are whole parts of
+    it, and its length is the source's."""
+    offsets, text = state_offsets(), section("THE RELAY'S STATE")
+    *begins, length = offsets
+    drawn = [[int(at) for at in row] for row in re.findall(r'^\*\*   bytes (\d+) to (\d+)  ', text, flags=re.MULTILINE)]
+    if drawn != [[first, last - 1] for first, last in zip(offsets, offsets[1:])]:
+        faults.append(f'{HEADER}: the state is drawn as {drawn}; its parts begin at {begins}, and it has {length} bytes')
+    told = {"THE RELAY'S STATE": words(text), 'FRAME BY FRAME': plain('FRAME BY FRAME'), **{call: words(text) for call, text in comments().items()}}
+    for where, said in told.items():
+        parts = re.findall(r'\bbytes (\d+) (?:to|and) (\d+)', said)
+        faults.extend(f'{HEADER}: {where} has bytes {first} to {last}, which are no parts of the state' for first, last in parts
+                      if int(first) not in begins or int(last) + 1 not in offsets)
+        lengths = re.findall(r'(?:A relay is|the relay,|state_len is not|begin again with|with all) (\d+)', said)
+        if set(lengths) - {str(length)} or where in answers() and len(lengths) != 2:
+            faults.append(f'{HEADER}: {where} has {lengths} for the length of the state, which is {length}')
+    for where, wanted, count in (("THE RELAY'S STATE", f'{length - begins[2]} zero bytes behind them', 2),
+                                 ("THE RELAY'S STATE", f'store the two records, bytes 0 to {begins[2] - 1}, in permanent memory', 1),
+                                 ('WHAT COMES BACK', f'state not {length} bytes', 1), ('feed', f'from byte {begins[3]} on', 1)):
+        if (told.get(where) or plain(where)).count(wanted) != count:
+            faults.append(f'{HEADER}: "{wanted}" should stand {count} times in {where}')
+    return len(drawn) + len(told)
+
+
+def check_feeding():
+    """Where the frames of two ends lie in the state, as they are drawn; and what is said of how many frames are answered 10 and 4."""
+    frames, (*_, count, numbers, length) = constants('samples')['FRAMES'], state_offsets()
+    size, text = 2 * (3 + 3 * 2), plain('FRAME BY FRAME')
+    places = [(count, numbers), *((numbers + size * f, numbers + size * (f + 1)) for f in (0, 1, frames - 1)), (numbers + size * frames, length)]
+    first, second, *middle, last, behind = (f'{begin} to {end - 1}' for begin, end in places)
+    lasts = [f'{1000 * (frames - 1) / (frames * hertz):g} ms at {hertz} Hz' for hertz in (50, 60)]
+    wanted = [
+        f'bytes {first} {second} {" ".join(middle)} .. {last} {behind} the count frame 0, oldest frame 1 frame {frames - 1}, newest behind',
+        f'the first {frames}(3 + 3N) of the {(length - numbers) // 2} numbers are {frames} frames',
+        f'answers 10 to the next {frames - 1} frames, and decides at the {frames}th',
+        f'no decision by feed for {frames - 1} sample times, {lasts[0]} and {lasts[1]}',
+        f'among the {frames}, which is {frames} frames in a row, and its place falls by 3 + 3N with each',
+        f'one of the first {frames - 1} frames shows at the {frames}th: 10 stands before 4',
+        f'on this frame and the {frames - 1} before it', f'4 comes for {frames} frames', f'10 comes for {frames - 1} frames',
+    ]
+    faults.extend(f'{HEADER}: FRAME BY FRAME does not have "{words}"' for words in wanted if words not in text)
+    if f'fewer than {frames} frames yet' not in plain('WHAT COMES BACK'):
+        faults.append(f'{HEADER}: the table of numbers does not say "fewer than {frames} frames yet"')
+    of_confirm = f'Feed answers 10 to the next {frames - 1} frames, so there is no decision by feed for {frames - 1}/{frames} of a cycle'
+    of_feed = [f'fewer than {frames} frames are kept, this one counted', f'missing among the newest {frames} frames',
+               f'of the first {frames}(3 + 3N) numbers', f'at most {frames}; a count above {frames} reads as {frames}']
+    for call, sentences in (('confirm', [of_confirm]), ('feed', of_feed)):
+        faults.extend(f'{HEADER}: the comment of {call} does not have "{words}"' for words in sentences if words not in plain_comment(call))
+    return len(wanted) + 1 + len(of_feed)
+
+
+def plain_comment(call):
+    return words(comments().get(call, ''))
+
+
+def check_names():
+    """Each name of the library in the manual is one that a compiler finds; a call that is shown has as many arguments as the function."""
+    text, bare = read(HEADER), header()
+    known = set(re.findall(r'\b(?:GORSEPETAL|gorsepetal)_\w+', bare))
+    comment = '\n'.join(re.findall(r'/\*.*?\*/', text, flags=re.DOTALL))
+    found = [name for name in re.findall(r'\b(?:GORSEPETAL|gorsepetal)_\w+', comment) if not name.endswith('_')]
+    faults.extend(f'{HEADER}: a comment has {name}, which the header does not declare' for name in dict.fromkeys(found) if name not in known)
+    for name, arguments in re.findall(r'\b(gorsepetal_\w+)\(([^()]*)\)', words(comment)):
+        declared = re.search(rf'\b{name}\(([^)]*)\)', bare)
+        if declared and declared[1].count(',') != arguments.count(','):
+            faults.append(f'{HEADER}: {name}({arguments}) has not as many arguments as the function')
+    return len(found)
 
 
 def settings_rules():

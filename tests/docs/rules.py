@@ -10,11 +10,10 @@ from typing import NamedTuple
 
 import header
 import manual
-from tree import ROOT, fault, faults, read
+from tree import ROOT, fault, faults, read, tables
 
 PAGE = Path('docs/RULES.md')
 SESSION = Path('crates/session/src/lib.rt')
-GIVEN_BACK = Path('crates/claims/specs/GivenBack.antt')
 DIFFERENTIAL = Path('crates/differential/specs/Differential.antt')
 RATE = Path('crates/phasors/specs/Rate.antt')
 WINDOW = Path('crates/samples/specs/Window.antt')
@@ -50,11 +49,8 @@ def columns(*names):
 
 
 def table(first):
-    """The rows of the table that has this heading above its first column, by the headings of the columns."""
-    m = re.search(rf'^(\| {first} \|.*)\n\|[-|]+\n((?:\|.*\n)*)', read(PAGE), flags=re.MULTILINE)
-    lines = [m[1], *m[2].splitlines()] if m else ['']
-    heading, *rows = ([cell.strip() for cell in line.strip('|').split('|')] for line in lines)
-    return [dict(zip(heading, row)) for row in rows]
+    """The rows of the table that has this heading above its first column."""
+    return next(iter(tables(PAGE, first)), [])
 
 
 def compare(what, found, wanted):
@@ -100,17 +96,25 @@ def definitions():
 
 @cache
 def constants():
-    """The definitions that are a number."""
-    found = {name: re.search(rf'^{re.escape(name)} = (\d+)$', text, flags=re.MULTILINE) for name, text in definitions().items()}
-    return {name: int(m[1]) for name, m in found.items() if m}
+    """The definitions that are a number: as a numeral, or as a sum of products of such definitions and of windows' lengths."""
+    found = {name: re.search(rf'^{re.escape(name)} = ([\w ()+*]+)$', text, flags=re.MULTILINE) for name, text in definitions().items()}
+    written = {name: re.sub(r'\bwindowLength (\d)', lambda m: f'frames * {channels(int(m[1]))}', m[1]) for name, m in found.items() if m}
+
+    def value(expression):
+        names = {name: value(written[name]) if name in written else None for name in re.findall(r'[^\W\d]\w*', expression)}
+        return None if None in names.values() or not re.fullmatch(r'\w+( [+*] \w+)*', expression) else eval(expression, names)
+
+    values = {name: value(expression) for name, expression in written.items()}
+    return {name: number for name, number in values.items() if number is not None}
 
 
 @cache
 def figures(name, further=1):
-    """The numbers in a definition, in the constants that it names, and in the definitions that it names."""
+    """The numbers in a definition, in the constants and of the answers that it names, and in the definitions that it names."""
     text = re.sub(r'\bnegsuc (\d+)', lambda m: str(int(m[1]) + 1), definitions().get(name, ''))
     words = set(re.findall(r'[^\s(){},;.]+', text)) - {name}
-    found = {abs(n) for n in numbers(text)} | {constants()[word] for word in words if word in constants()}
+    known = {**constants(), **{answer: int(n) for answer, n in re.findall(r'^number (\w+) = (\d+)$', definitions()['number'], flags=re.MULTILINE)}}
+    found = {abs(n) for n in numbers(text)} | {known[word] for word in {name, *words} if word in known}
     return found.union(*(figures(word, further - 1) for word in words if further and word in definitions()))
 
 
@@ -124,21 +128,15 @@ def lengths():
 
 def worked_out(name):
     """What the figures of a definition come to, where the page has the result."""
-    if name == 'windowLength':
-        return set(lengths()) | {2 * length for length in lengths()}
-    if name == 'Above':
-        return {100 * constants()['band']}
-    return {'NotBelow': {constants()['band']}, 'oneAndAHalf': figures('sixteen', 0)}.get(name, set())
-
-
-def answers():
-    """Each call with the numbers that it gives, in its order of checks, each with whether it has a place: the rows of crates/claims."""
-    found = {}
-    for m in re.finditer(r'^pub data (\w+)Row .*?\n(.*?)(?=^\S|\Z)', read(GIVEN_BACK), flags=re.DOTALL | re.MULTILINE):
-        call = re.sub(r'(?<=.)([A-Z])', r'_\1', m[1]).lower()
-        rows = re.findall(rf'{m[1]}Row \w+ \w+(?: \w+)? (?:(\d+)|\(256 \* k \+ (\d+)\))$', m[2], flags=re.MULTILINE)
-        found[call] = {int(plain or placed): bool(placed) for plain, placed in rows}
-    return found
+    band, longest = constants()['band'], lengths()[-1]
+    *_, count, first, end = header.state_offsets()
+    return {
+        'windowLength': set(lengths()) | {2 * length for length in lengths()},
+        'Above': {100 * band}, 'NotBelow': {band}, 'oneAndAHalf': figures('sixteen', 0),
+        'numbersOfFrame': {2 * channels(ends) for ends in range(2, constants()['mostEnds'] + 1)},
+        'windowAt': {count, first - 1, first, end - 1, longest}, 'none': {longest}, 'emptied': {end - count},
+        'keptAnswer': {constants()['frames'] - 1},
+    }.get(name, set())
 
 
 # Checks
@@ -172,7 +170,7 @@ def check_rules():
 def check_figures():
     """Each number from 10 up in a rule, its unit apart, is in a definition that it names, or follows from it, or is in the section of the
     manual that it names."""
-    count, apart = 0, {'rule', 'at', 'bytes', 'bit', 'unit', 'by', 'definition'}
+    count, apart = 0, {'rule', 'at', 'bytes', 'bit', 'answer', 'unit', 'by', 'definition'}
     for rule in rules():
         said = ' '.join(cell for column, cell in rule.cells.items() if column not in apart)
         wanted = set(map(abs, numbers(in_manual(rule)))).union(*(figures(name) | worked_out(name) for name in named(rule)))
@@ -229,8 +227,8 @@ def check_settings():
 def check_answers():
     """The table of numbers has those of crates/answers, each with its calls, and a place where it has one. Each call's order of checks,
     what each answer leaves, and the drawing of the two entries have the numbers that the call gives."""
-    given = answers()
-    wanted = [[str(number), name, any(call.get(number) for call in given.values()), [call for call in given if number in given[call]]]
+    given = header.answers()
+    wanted = [[str(number), name, number in header.placed(), [call for call in given if number in given[call]]]
               for name, number in header.public('answers').items()]
     found = [[number, name, place != '0', calls.split(', ')] for number, name, place, calls in columns('number', 'name', 'place', 'calls')]
     count = compare('the table of numbers', found, wanted)
@@ -238,7 +236,7 @@ def check_answers():
             [[call, [number for number in rows if number]] for call, rows in given.items()])
     left = columns('call', 'answer')
     for call, rows in given.items():
-        told = [n for name, answer in left if name in (call, 'all four') for n in numbers(answer)]
+        told = [n for name, answer in left if name in (call, 'every call') for n in numbers(answer)]
         if sorted(told) != sorted(rows):
             faults.append(f'{PAGE}: what {call} leaves is told of {told}; it gives {list(rows)}')
     arrows = re.findall(r'\b(propose|confirm): (\d(?:, \d)*)', drawn())
@@ -250,28 +248,31 @@ def check_answers():
 
 
 def meant(number, place):
-    """What the row of a number with a place has to name: the rules of the field there, or the sample as its N, frame, channel and name."""
-    if number != header.public('answers')['MISSING_SAMPLE']:
-        field = place - place % 2 if number == header.public('answers')['DIFFERS'] else place
+    """What the row of a number has to name: the rules of the field at its place; the sample there as its N, frame, channel and name; how many
+    frames or bytes there should be."""
+    known, frames = header.public('answers'), constants()['frames']
+    if number in (known['OUT_OF_RANGE'], known['DIFFERS']):
+        field = place - place % 2 if number == known['DIFFERS'] else place
         return ' or '.join(f'R{rule.number}' for rule in rules() if rule.cells.get('at') == str(field)) + ':'
-    frame, channel = divmod(place, channels(2))
-    name = f'I{"abc"[channel % 3]} of end {channel // 3}' if channel >= 3 else f'V{"abc"[channel]}'
-    return f'N = 2: frame {frame}, channel {channel}, {name}'
+    if number == known['MISSING_SAMPLE']:
+        frame, channel = divmod(place, channels(2))
+        name = f'I{"abc"[channel % 3]} of end {channel // 3}' if channel >= 3 else f'V{"abc"[channel]}'
+        return f'N = 2: frame {frame}, channel {channel}, {name}'
+    return {known['TOO_FEW_FRAMES']: f'fewer than {frames} frames', known['NO_RELAY']: f'the state is not {constants()["stateLength"]} bytes'}.get(number, '')
 
 
 def check_said():
     """What the relay says: each number of crates/answers, with a place where it has one; what C gets of it; what it names. Divisions that
     leave something over come out, and are by the weight of a place or by the channels of a window."""
     rows, weight = table('said'), header.constants('answers')['PLACE_WEIGHT']
-    placed = {number for call in answers().values() for number, has_place in call.items() if has_place}
     said = [numbers(row['said']) for row in rows]
     compare('what the relay says', [*dict.fromkeys(number for number, *_ in said)], [*header.public('answers').values()])
     for row, (number, *place) in zip(rows, said):
         at = place[0] if place else 0
         wrong = [
-            (row['said'] != (f'{number} at {at}' if number in placed else str(number)), 'its place'),
+            (row['said'] != (f'{number} at {at}' if number in header.placed() else str(number)), 'its place'),
             (row['C gets'] != str(weight * at + number), f'what C gets, {weight * at + number}'),
-            (bool(place) and meant(number, at) not in row['means'], f'"{meant(number, at)}"'),
+            (meant(number, at) not in row['means'], f'"{meant(number, at)}"'),
         ]
         faults.extend(f'{PAGE}: the row "{row["said"]}" of what the relay says lacks {what}' for is_so, what in wrong if is_so)
     divided = [[*map(int, m)] for m in re.findall(r'(\d+) / (\d+) is (\d+), (\d+) left over', read(PAGE))]
@@ -282,7 +283,8 @@ def check_said():
 
 
 def check_measuring():
-    """The lines of the cosines and the sines, the window that is drawn, its lengths, and where a converter clips."""
+    """The lines of the cosines and the sines, the window that is drawn, its lengths and those of a frame, where a converter clips, and what is
+    stored and fed in place of what was lost."""
     line = {name: numbers(rest) for name, rest in re.findall(r'^([CS])\[n\](.*)$', drawn(), flags=re.MULTILINE)}
     entries = re.findall(r'(negℤ \()?pos (\d+)', header.definition(RATE, 'cosines'))
     table = [-int(n) if minus else int(n) for minus, n in entries]
@@ -297,9 +299,14 @@ def check_measuring():
     compare('the indexes that are drawn', frames, [[f, *range(f * wide, (f + 1) * wide)] for f, *_ in frames])
     told = [numbers(rule.cells['now'].partition(':')[2]) for rule in rules() if 'windowLength' in named(rule)]
     compare('the lengths of windows', told, [lengths() + [2 * length for length in lengths()]])
-    largest = -header.constants('samples')['MISSING'] - 1
-    if f'clip at -{largest} and {largest}' not in read(PAGE):
-        faults.append(f'{PAGE}: it does not say that a converter must clip at -{largest} and {largest}')
+    told = [numbers(rule.cells['now'].partition('bytes:')[2]) for rule in rules() if 'numbersOfFrame' in named(rule)]
+    compare('the lengths of frames', told, [[2 * channels(ends) for ends in range(2, constants()['mostEnds'] + 1)]])
+    largest, most = -header.constants('samples')['MISSING'] - 1, constants()['frames']
+    *_, count, _, end = header.state_offsets()
+    for words in (f'must clip at -{largest} and {largest}', f'the stored bytes 0 to {count - 1} hold',
+                  f'marks: 4 for {most} frames; or zeros in state bytes {count} to {end - 1}: 10 for {most - 1} frames'):
+        if words not in read(PAGE):
+            faults.append(f'{PAGE}: it does not say "{words}"')
     return len(table) + len(frames)
 
 

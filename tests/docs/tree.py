@@ -23,6 +23,15 @@ def blank(pattern, text):
     return re.sub(pattern, lambda m: re.sub(r'[^\n]', ' ', m.group()), text, flags=re.DOTALL | re.MULTILINE)
 
 
+def tables(path, first):
+    """The tables of a page that have this heading above their first column: the rows of each, by the headings of the columns."""
+    found = []
+    for m in re.finditer(rf'^(\| {first} \|.*)\n\|[-|]+\n((?:\|.*\n)*)', read(path), flags=re.MULTILINE):
+        heading, *rows = ([cell.strip() for cell in line.strip('|').split('|')] for line in (m[1], *m[2].splitlines()))
+        found.append([dict(zip(heading, row)) for row in rows])
+    return found
+
+
 def sources(*crates):
     """Each .rt file of some crates, without its comments."""
     for crate in crates:

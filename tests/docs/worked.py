@@ -5,7 +5,7 @@ import math
 import re
 import sys
 
-from header import HEADER
+from header import HEADER, constants
 from manual import plain, section
 from tree import ROOT, faults, read
 
@@ -43,6 +43,11 @@ def check_example():
     return len(wanted)
 
 
+def relay(record):
+    """A relay with this record in force, and nothing else."""
+    return record.ljust(constants('gorsepetal')['STATE_LENGTH'], b'\0')
+
+
 def worked_record():
     """The 32 bytes that the manual comes to for the line of three ends."""
     shown = re.search(r'^\*\*   ((?:[0-9A-F]{4} ?){16})$', read(HEADER), flags=re.MULTILINE)
@@ -67,7 +72,7 @@ def check_decision():
     numbers = [0] * measuring.length(3)
     for channel, (x, y) in enumerate(given_phasors(text)):
         numbers[channel], numbers[4 * 12 + channel] = 8 * x, -8 * y
-    decided = decision.decide(record + bytes(32), b''.join((x % 65536).to_bytes(2, 'big') for x in numbers), 32).written
+    decided = decision.decide(relay(record), b''.join((x % 65536).to_bytes(2, 'big') for x in numbers), 32).written
     line, by_channel = measuring.line(record), measuring.phasors(numbers, 3)
     v, i = by_channel[0:3], by_channel[3:6]
     v2, i2 = measuring.negative(*v), measuring.negative(*i)
@@ -108,7 +113,7 @@ def tested(record, va, ia):
     for channel, volts in enumerate((va, cmath.rect(SOUND, -2 * math.pi / 3), cmath.rect(SOUND, 2 * math.pi / 3))):
         with_wave(numbers, channel, 100 * math.sqrt(2) * volts)
     with_wave(numbers, 3, 200 * math.sqrt(2) * ia)
-    decided = decision.decide(record + bytes(32), b''.join((x % 65536).to_bytes(2, 'big') for x in numbers), 32).written
+    decided = decision.decide(relay(record), b''.join((x % 65536).to_bytes(2, 'big') for x in numbers), 32).written
     return decided[2] & 1, decided[3]
 
 

@@ -4,6 +4,7 @@
 #include <stddef.h>
 int memcmp(const void *a, const void *b, size_t length);
 void *memcpy(void *to, const void *from, size_t length);
+void *memmove(void *to, const void *from, size_t length);
 void *memset(void *to, int byte, size_t length);
 int strcmp(const char *a, const char *b);
 #endif

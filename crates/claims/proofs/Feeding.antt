@@ -1,24 +1,29 @@
 -- What the firmware hears: the window in the relay's state is the one that the frames kept since it was empty were fed to, so the 16 frames that
 -- are decided on are the newest of them.
-use Prim.Native.Nat.{ℕ, zero, suc, _+_, _*_, _-_, _≤_, min}
-use mathlib.Core.Path.{_≡_, refl, sym, ap, subst, _∙_}
+use Prim.Native.Nat.{ℕ, zero, suc, _+_, _*_, _-_, _≤_, _<_, min}
+use mathlib.Core.Path.{_≡_, refl, sym, ap, ap₂, subst, _∙_}
 use mathlib.Core.List.{List, [], _∷_, _++_, flatten, map}
 use mathlib.Core.Bool.{Bool, true, false, cond, false≢true}
 use native.Mathlib.Omega.{arith}
 use borrow.Author.Tests.{eqb-true, eqb-false}
 use lib.Dec.{eqb}
-use lib.IntN.{ℤ}
-use lib.ListN.{length, take, drop, replicate, length-append, length-drop}
+use lib.IntN.{ℤ, pos}
+use lib.Seq.{getD-drop}
+use lib.ListN.{length, take, drop, replicate, length-append, length-drop, getD, List·getD-append}
 use Rattle.answers.specs.Answers.{givenBack}
-use Rattle.samples.specs.Window.{frames, numbersOf}
+use Rattle.samples.specs.declared.Found.the-variants.{At}
+use Rattle.samples.specs.Window.{frames, numbersOf, firstMissing}
 use Rattle.samples.proofs.Bytes.{held, numbers-append}
+use Rattle.samples.proofs.Missing.{first-at, is-first}
+use Rattle.decision.specs.Decide.{ofFound}
 use Rattle.stream.specs.declared.Window.{Window}
-use Rattle.stream.specs.Window.{movedOn, none, HasRoom}
+use Rattle.stream.specs.Window.{counted, movedOn, none, HasRoom}
 use Rattle.stream.specs.Stored.{storedLength, Every, Byte, Sound}
 use Rattle.stream.specs.History.{after, Frames, newest, Remembers}
 use Rattle.stream.proofs.Every.{every-append, every-drop}
 use Rattle.stream.proofs.Bytes.{numbers-samples}
-use Rattle.stream.proofs.Storing.{none-sound, fresh-none, kept-sound, kept-read}
+use Rattle.stream.proofs.Storing.{none-sound, fresh-none, moved-sound, kept-read}
+use Rattle.stream.proofs.Moving.{moved-newest}
 use Rattle.stream.proofs.History.{fed, after-more}
 use Rattle.feed.specs.Feed.{numbersOfFrame, withFrame, withKept}
 use Rattle.gorsepetal.specs.State.{stateLength, freshState, windowOffset, settingsOf, windowOf}
@@ -26,11 +31,11 @@ use Rattle.gorsepetal.specs.Calls.{confirmAnswer, lengthInForce, newestOf, feed
 use Rattle.claims.specs.GivenBack.{Keepable}
 use Rattle.claims.specs.Frames.{isKept, IsKept}
 use Rattle.claims.specs.Demand1.{Call, proposing, confirming, reading-back, deciding, feeding, Logged, freshRelay, next, afterCalls}
-use Rattle.claims.specs.Feeding.{framesWith, framesAfter, oneAfterAnother, FedBytes, AllBytes, Heard, FirmwareHears, HasKept, fresh, proposed, confirmed, refused, kept, not-kept, other, HearsOverHistories}
+use Rattle.claims.specs.Feeding.{framesWith, framesAfter, oneAfterAnother, FedBytes, AllBytes, Heard, FirmwareHears, HasKept, fresh, proposed, confirmed, refused, kept, not-kept, other, HearsOverHistories, PlaceFalls}
 use Rattle.claims.proofs.Parts.{same-window}
 use Rattle.claims.proofs.Relay.{propose-left, confirm-left}
 use Rattle.claims.proofs.Settings.{refused-confirmation}
-use Rattle.claims.proofs.Frames.{keeps-done, few, early-answer, kept-exactly, else-nothing-kept, refused-feed, fed-as-decided}
+use Rattle.claims.proofs.Frames.{keeps-done, few, was-full, early-answer, full-answer, feed-answers, row-4, four, kept-exactly, else-nothing-kept, refused-feed, fed-as-decided}
 use Rattle.claims.proofs.Unmoved.{feed-leaves-settings, entries-leave-window}
 
 -- ---- lists of frames
@@ -118,22 +123,26 @@ module _ (fs : List (List ℕ)) (s f out : List ℕ) (n : ℕ) (s₁ out₁ : Li
   all-whole : Whole m (fs ++ (f ∷ []))
   all-whole = every-append (λ (f : List ℕ). length f ≡ 2 * m) fs (f ∷ []) (h .whole) (keep .whole, tt)
 
+  abbrev fits : HasRoom frames m
+  fits = (omega arith, omega (arith, few s f out keep))
+
+  -- the window that is read from the state has moved on
+  moved : windowOf s₁ ≡ withFrame r (windowOf s) f
+  moved =
+      let l = h .relay in
+      let state : s₁ ≡ withKept r windowOffset s f = c .state ∙ rw (keeps-done s f out keep) in
+      ap windowOf state ∙ kept-read s 64 frames m (numbersOf f) (h .sound) (omega arith) fits (held m f (keep .whole)) (numbers-samples f bytes)
+
   one-more : Holds (fs ++ (f ∷ [])) s₁
   one-more =
       let l = h .relay in
-      let frame = held m f (keep .whole) in
-      let samples = numbers-samples f bytes in
       let rest = feed-leaves-settings s f out n s₁ out₁ l c in
       let force : settingsOf s₁ .force ≡ r = ap (λ p. p .force) (rest .1) in
-      let state : s₁ ≡ withKept r windowOffset s f = c .state ∙ rw (keeps-done s f out keep) in
-      let fits : HasRoom frames m = (omega arith, omega (arith, few s f out keep)) in
-      let read = kept-read s 64 frames m (numbersOf f) (h .sound) (omega arith) fits frame samples in
-      let now : windowOf s₁ ≡ withFrame r (windowOf s) f = ap windowOf state ∙ read in
       record {
         relay = rest .0;
         whole = subst (λ (x : List ℕ). Whole (numbersOfFrame x) (fs ++ (f ∷ []))) (sym force) all-whole;
-        sound = subst Sound (sym now) (kept-sound s 64 frames m (numbersOf f) (h .sound) (omega arith) fits frame samples);
-        window = now ∙ with-frame ∙ ap (λ (x : List ℕ). after frames (numbersOfFrame x) none (numbers (fs ++ (f ∷ [])))) (sym force);
+        sound = subst Sound (sym moved) (moved-sound frames m (windowOf s) (numbersOf f) fits (held m f (keep .whole)) (numbers-samples f bytes) (h .sound));
+        window = moved ∙ with-frame ∙ ap (λ (x : List ℕ). after frames (numbersOfFrame x) none (numbers (fs ++ (f ∷ [])))) (sym force);
       }
 
   -- what it is answered
@@ -192,6 +201,39 @@ holds (other h l w force) = stays (holds h) l w force
 
 pub hears-over-histories : HearsOverHistories
 hears-over-histories fs s f out n s₁ out₁ h bytes c is-kept = heard fs s f out n s₁ out₁ (holds h) bytes c is-kept
+
+-- ---- a missing sample, one frame later
+
+-- the list moved on, and the first missing number of it
+missing-later :
+    (m : ℕ) (xs ys : List ℤ) (k : ℕ) → m ≤ k → firstMissing xs ≡ At k → firstMissing (drop m (xs ++ ys)) ≡ At (k - m)
+missing-later m xs ys k far e =
+    let first = first-at xs k e in
+    let at : (i : ℕ) → i ≤ k - m → getD (drop m (xs ++ ys)) i (pos 0) ≡ getD xs (m + i) (pos 0) =
+    λ i low. getD-drop m (xs ++ ys) i (pos 0) ∙ List·getD-append xs ys (pos 0) (m + i) (omega (arith, first .0)) in
+    let size : k - m < length (drop m (xs ++ ys)) = simp (length-drop, length-append) (omega (arith, first .0)) in
+    let back : m + (k - m) ≡ k = omega arith in
+    sym (is-first (drop m (xs ++ ys)) (At (k - m)) (
+      size,
+      at (k - m) (omega arith) ∙ ap (λ (i : ℕ). getD xs i (pos 0)) back ∙ first .1,
+      λ i below there. first .2 (m + i) (omega arith) (sym (at i (omega arith)) ∙ there),
+    ))
+
+pub place-falls : PlaceFalls
+place-falls fs s f out k s₁ out₁ g room n s₂ room₁ h bytes c far c₁ is-kept₁ =
+    let is-kept : IsKept (256 * k + 4) = rw (four k) in
+    let m : ℕ = numbersOfFrame (settingsOf s .force) in
+    let found = row-4 s f out _ k (feed-answers s f out _ s₁ out₁ c _ .0 refl) refl in
+    let now = moved fs s f out _ s₁ out₁ (holds h) bytes c is-kept in
+    let keep₁ = kept-exactly s₁ g room n s₂ room₁ c₁ .0 is-kept₁ in
+    let whole = held (numbersOfFrame (settingsOf s₁ .force)) g (keep₁ .whole) in
+    let force : numbersOfFrame (settingsOf s₁ .force) ≡ m = ap (λ p. numbersOfFrame (p .force)) (feed-leaves-settings s f out _ s₁ out₁ (holds h .relay) c .1) in
+    let later : newestOf s₁ g ≡ drop m (newestOf s f ++ numbersOf g) =
+    moved-newest frames (numbersOfFrame (settingsOf s₁ .force)) (windowOf s₁ .numbers) (numbersOf g) (omega (arith, was-full s₁ g room keep₁, few s₁ g room keep₁)) whole
+    ∙ ap₂ (λ (i : ℕ) (w : Window). drop i (take (frames * i) (w .numbers) ++ numbersOf g)) force now in
+    let counts : windowOf s₁ .count ≡ counted frames (windowOf s .count) = ap (λ (w : Window). w .count) now in
+    let answer = full-answer s₁ g room keep₁ (omega (arith, counts, found .0)) in
+    c₁ .given ∙ ap givenBack (answer ∙ ap ofFound (ap firstMissing later ∙ missing-later m (newestOf s f) (numbersOf g) k far (found .1)))
 
 -- every list of calls is one
 kept-next : (p : Logged) (fs : List (List ℕ)) (c : Call) → FedBytes c → HasKept fs (p .state) → HasKept (framesWith (p .state) fs c) (next p c .state)

@@ -70,7 +70,7 @@ module _ (s f out : List ℕ) where
     few = in-range r (k .good) .ends-range .most
 
     -- the window has 336 numbers, before this frame and with it
-    was-full : length (windowOf s .numbers) ≡ windowLength 6
+    pub was-full : length (windowOf s .numbers) ≡ windowLength 6
     was-full = let l = k .relay in held (windowLength 6) (take numberBytes (drop 66 s)) (part-holds s 64 (omega arith))
 
     pub full : length (withFrame r (windowOf s) f .numbers) ≡ windowLength 6
@@ -137,7 +137,7 @@ feed-answers s f out n s₁ out₁ c =
 
 -- ---- what is kept
 
-four : (k : ℕ) → numberIn (256 * k + 4) ≡ 4
+pub four : (k : ℕ) → numberIn (256 * k + 4) ≡ 4
 four k = omega arith
 
 pub kept-exactly : KeptExactly
@@ -184,8 +184,8 @@ fed-as-decided s f out n s₁ out₁ c is-kept enough b same long =
       buffer = c .buffer ∙ ap₂ (λ (a : Answer) (x : List ℤ). written a r x out) (heard ∙ sym answer) (sym same);
     }
 
--- an answer of 4 is in its row, with its place
-row-4 : (s f out : List ℕ) (n k : ℕ) → FeedRow s f out n → n ≡ 256 * k + 4 → firstMissing (newestOf s f) ≡ At k
+-- an answer of 4 is in its row, with its place: there are 16 frames, and it is the first missing number of them
+pub row-4 : (s f out : List ℕ) (n k : ℕ) → FeedRow s f out n → n ≡ 256 * k + 4 → (frames ≤ windowOf s .count + 1) × (firstMissing (newestOf s f) ≡ At k)
 row-4 s f out n k (row.FeedRow.no-relay l) z = absurd (omega arith)
 row-4 s f out n k (row.FeedRow.no-settings l g) z = absurd (omega arith)
 row-4 s f out n k (row.FeedRow.frame-length l g h) z = absurd (omega arith)
@@ -193,9 +193,9 @@ row-4 s f out n k (row.FeedRow.no-room l g h q) z = absurd (omega arith)
 row-4 s f out n k (row.FeedRow.too-few h less) z = absurd (omega arith)
 row-4 s f out n k (row.FeedRow.missing-sample h enough i below there before) z =
     let same : i ≡ k = omega arith in
-    sym (is-first (newestOf s f) (At i) (rw (newest-length s f out h) below, there, before)) ∙ ap At same
+    (enough, sym (is-first (newestOf s f) (At i) (rw (newest-length s f out h) below, there, before)) ∙ ap At same)
 row-4 s f out n k (row.FeedRow.done h enough none) z = absurd (omega arith)
 
 pub missing-in-frames : MissingInFrames
 missing-in-frames s f out g c s₁ out₁ l d =
-    first-in-order (numbersOfFrame (settingsOf s .force)) (newestOf s f) g c l (row-4 s f out _ _ (feed-answers s f out _ s₁ out₁ d _ .0 refl) refl)
+    first-in-order (numbersOfFrame (settingsOf s .force)) (newestOf s f) g c l (row-4 s f out _ _ (feed-answers s f out _ s₁ out₁ d _ .0 refl) refl .1)

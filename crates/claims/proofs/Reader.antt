@@ -51,6 +51,7 @@ gorsepetal = record {
   else-nothing-kept = frames.else-nothing-kept;
   fed-as-decided = frames.fed-as-decided;
   missing-in-frames = frames.missing-in-frames;
+  place-falls = feeding.place-falls;
   refused-feed = frames.refused-feed;
   feed-leaves-settings = unmoved.feed-leaves-settings;
   entries-leave-window = unmoved.entries-leave-window;

@@ -1,6 +1,6 @@
 -- Document 02, CR 1: what the firmware may rely on that feeds one frame every sample time. Over every list of calls that lend one relay, fresh at
 -- the start: what a frame is answered goes by the frames themselves, whatever bytes the state keeps them in.
-use Prim.Native.Nat.{ℕ, _≤_, _<_}
+use Prim.Native.Nat.{ℕ, _+_, _*_, _-_, _≤_, _<_}
 use mathlib.Core.Path.{_≡_}
 use mathlib.Core.List.{List, [], _∷_, _++_, flatten}
 use mathlib.Core.Bool.{cond}
@@ -10,6 +10,7 @@ use Rattle.answers.specs.Answers.{givenBack}
 use Rattle.samples.specs.Window.{frames}
 use Rattle.stream.specs.Stored.{Every, Byte}
 use Rattle.stream.specs.History.{newest}
+use Rattle.feed.specs.Feed.{numbersOfFrame}
 use Rattle.gorsepetal.specs.State.{stateLength, freshState, settingsOf, windowOf}
 use Rattle.gorsepetal.specs.Calls.{confirmAnswer, feedAnswer, Proposed, Confirmed, Decided, Fed}
 use Rattle.claims.specs.Frames.{isKept, IsKept}
@@ -71,3 +72,11 @@ abbrev pub HearsOverHistories : Type 0
 HearsOverHistories =
     (fs : List (List ℕ)) (s f out : List ℕ) (n : ℕ) (s₁ out₁ : List ℕ) → HasKept fs s → Every Byte f → Fed s f out n s₁ out₁ → IsKept n
     → Heard (fs ++ (f ∷ [])) s out n out₁
+
+-- "Refusal 4 comes for as long as it is among the 16": a missing sample's place falls by a frame's numbers with each frame that is kept, until
+-- it stood in the oldest frame.
+abbrev pub PlaceFalls : Type 0
+PlaceFalls =
+    (fs : List (List ℕ)) (s f out : List ℕ) (k : ℕ) (s₁ out₁ g room : List ℕ) (n : ℕ) (s₂ room₁ : List ℕ) → HasKept fs s → Every Byte f
+    → Fed s f out (256 * k + 4) s₁ out₁ → numbersOfFrame (settingsOf s .force) ≤ k → Fed s₁ g room n s₂ room₁ → IsKept n
+    → n ≡ 256 * (k - numbersOfFrame (settingsOf s .force)) + 4

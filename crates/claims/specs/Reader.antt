@@ -14,7 +14,7 @@ use Rattle.claims.specs.WrongRelays.{NotZeroed, NotHandedOut}
 use Rattle.claims.specs.Demand1.{Demand1, OverHistories}
 use Rattle.claims.specs.Frames.{KeptExactly, ElseNothingKept, FedAsDecided, MissingInFrames, RefusedFeed}
 use Rattle.claims.specs.Unmoved.{FeedLeavesSettings, EntriesLeaveWindow, WindowDoesNotMatter}
-use Rattle.claims.specs.Feeding.{FirmwareHears, HearsOverHistories}
+use Rattle.claims.specs.Feeding.{FirmwareHears, HearsOverHistories, PlaceFalls}
 use Rattle.claims.specs.Demand2.{Demand2}
 use Rattle.claims.specs.Demand3.{Demand3First, Demand3Second, TripHasReason, FaultTrips, ThroughDoesNot, ThroughIsQuiet}
 use Rattle.claims.specs.WhichRule.{WhichRule, WhichRuleOverHistories, WhichRuleByFeeding, WhichRecord, WhichRecordOverHistories, SaidTwiceReadsBack, SaidTwiceDecides, SaidTwiceDecidesByFeeding}
@@ -55,6 +55,7 @@ pub record Gorsepetal : Type 0 where
   pub else-nothing-kept : ElseNothingKept
   pub fed-as-decided : FedAsDecided
   pub missing-in-frames : MissingInFrames
+  pub place-falls : PlaceFalls
   pub refused-feed : RefusedFeed
   -- and what feeding does not move
   pub feed-leaves-settings : FeedLeavesSettings

@@ -18,6 +18,9 @@ const RECORD_END: usize = 32;
 // The count of a full window.
 const FULL: u16 = FRAMES as u16;
 
+// How many numbers the longest frame has, that of six ends.
+const LONGEST_FRAME: usize = samples::LONGEST / FRAMES;
+
 // How many numbers a frame has, by a good settings record.
 fn frame_length(s: &[u8]) -> usize
     requires { ⌜ Ranges (now s) ⌝ }
@@ -32,7 +35,7 @@ fn kept(state: &mut [u8], at: usize, frame: &[u8], out: &mut [u8]) -> Answer
     ensures { λ a. ⌜ KeptFrame at (now (state .entry)) (now (frame .entry)) (now (out .entry)) a (now (state .exit)) (now (out .exit)) ⌝ }
 {
     let channels = frame_length(&state[RECORD..RECORD_END]);
-    let mut numbers = [0i16; samples::LONGEST];
+    let mut numbers = [0i16; LONGEST_FRAME];
     samples::numbers(frame, &mut numbers);
     let window = stream::keep(state, at, &numbers[0..channels], channels);
     if window.count < FULL {

@@ -7,7 +7,7 @@ use native.Mathlib.Nat.{not-suc-le-zero, ne-of-lt}
 use native.Mathlib.Numerals.{add-one}
 use native.Mathlib.Omega.{arith}
 use borrow.Author.Count.{below-more}
-use borrow.Author.Tests.{eq-eqb, ne-eqb, le-leb, lt-leb, eqb-true, eqb-false}
+use borrow.Author.Tests.{eq-eqb, ne-eqb, le-leb, lt-leb, eqb-true, eqb-false, leb-true}
 use lib.Dec.{eqb, leb}
 use lib.IntN.{ℤ, pos}
 use lib.ListN.{length, take, drop, set, getD}
@@ -37,6 +37,17 @@ module _ (b : List ℕ) where
 
   pub count-all : 2 * (length b / 2) ≡ length b → length b / 2 ≤ windowLength 6 → length b / 2 ≡ count b
   count-all h l = rw (eq-eqb (2 * (length b / 2)) (length b) h, le-leb (length b / 2) (windowLength 6) l)
+
+  -- at most as many as the longest window has, and as there are
+  pub count-few : (count b ≤ windowLength 6) × (2 * count b ≤ length b)
+  count-few = by-tests (eqb (2 * (length b / 2)) (length b)) refl (leb (length b / 2) (windowLength 6)) refl
+    where
+      by-tests :
+          (x : Bool) → eqb (2 * (length b / 2)) (length b) ≡ x → (y : Bool) → leb (length b / 2) (windowLength 6) ≡ y
+          → (cond (x && y) (length b / 2) 0 ≤ windowLength 6) × (2 * cond (x && y) (length b / 2) 0 ≤ length b)
+      by-tests true t true u = (leb-true (length b / 2) (windowLength 6) u, omega (arith, eqb-true (2 * (length b / 2)) (length b) t))
+      by-tests true t false u = (omega arith, omega arith)
+      by-tests false t y u = (omega arith, omega arith)
 
   counted : (n : ℕ) → 0 < n → count b ≡ n → HoldsNumbers n b
   counted n p e = by-tests (eqb (2 * (length b / 2)) (length b)) refl (leb (length b / 2) (windowLength 6)) e

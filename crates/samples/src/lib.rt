@@ -58,9 +58,9 @@ pub fn count(bytes: &[u8]) -> usize
     if n <= LONGEST { n } else { 0 }
 }
 
-// The bytes of numbers, two by two with the first low, at the front of a lent slice that has room for any window.
+// The bytes of numbers, two by two with the first low, at the front of a lent slice that has room for them.
 fn all_low_first(bytes: &[u8], samples: &mut [i16])
-    requires { ⌜ windowLength 6 ≤ length (now samples) ⌝ }
+    requires { ⌜ count (now bytes) ≤ length (now samples) ⌝ }
     ensures { λ _. ⌜ AllLowFirst (now (bytes .entry)) (now (samples .exit)) (count (now (bytes .entry))) ⌝ }
 {
     let n = count(bytes);
@@ -69,11 +69,11 @@ fn all_low_first(bytes: &[u8], samples: &mut [i16])
     }
 }
 
-// The numbers of big-endian bytes, at the front of a lent slice that has room for any window; of what stands behind them nothing is said.
+// The numbers of big-endian bytes, at the front of a lent slice that has room for them; of what stands behind them nothing is said.
 // In two passes: the first the compiler makes a plain copy of the bytes, and in the second it turns many numbers at a time; of one pass
 // that did both it would make neither.
 pub fn numbers(bytes: &[u8], samples: &mut [i16])
-    requires { ⌜ windowLength 6 ≤ length (now samples) ⌝ }
+    requires { ⌜ count (now bytes) ≤ length (now samples) ⌝ }
     ensures { λ _. ⌜ take (count (now (bytes .entry))) (now (samples .exit)) ≡ take (count (now (bytes .entry))) (numbersOf (now (bytes .entry))) ⌝ }
 {
     let n = count(bytes);

@@ -1,12 +1,21 @@
 -- `feed::kept` meets its contract: the frame's numbers are those of its bytes, and one law for each way out.
 use mathlib.Core.Path.{_≡_, refl}
 use native.Mathlib.Nat.{sub-zero}
+use native.Mathlib.Omega.{arith}
 use borrow.Author.Needs.{needs}
 use Prim.Native.Nat.{_-_}
 use lib.ListN.{length, take}
+use denote.Ref.{now}
+use Rattle.samples.proofs.Bytes.{count-few}
 use Rattle.feed.proofs.Cases.{kept-10, kept-on, ranges-stay}
 use Rattle.feed.proofs.kept.Statement.{statement}
 use Rattle.feed.proofs.kept.Tie as tie
+
+numbers-requires : tie.Need-numbers-requires
+numbers-requires c κs =
+    let v = c .before in
+    let p = v .before .before .before .before .before .before in
+    omega (arith, count-few (now (p .args .frame)) .1, p .pre .3, v .frame-length .ensures .0, v .frame-length .ensures .1)
 
 returns : tie.Need-returns
 returns c =
@@ -49,7 +58,7 @@ kept-spec =
     tie.close
     (tie.spec
     (λ c. search needs) (λ c. search needs) (λ c. search needs) (λ c κs. search needs) (λ c. search needs)
-    (λ c κs. search needs) (λ c. search needs) (λ c. search needs) (λ c. search needs) (λ c κs. search needs)
+    numbers-requires (λ c. search needs) (λ c. search needs) (λ c. search needs) (λ c κs. search needs)
     (λ c. search needs) returns (λ c. search needs) (λ c. search needs) (λ c. search needs) (λ c. search needs)
     (λ c. search needs) (λ c. search needs) part-decide-end-2 decide-requires (λ c. search needs) (λ c. search needs)
     returns-2)

@@ -3,10 +3,18 @@ use Prim.Native.Nat.{_+_, _-_}
 use native.Mathlib.Omega.{arith}
 use borrow.Author.Needs.{needs}
 use denote.Ref.{now}
+use lib.ListN.{take, drop}
 use Rattle.stream.specs.Stored.{storedLength}
+use Rattle.samples.proofs.Bytes.{count-few}
 use Rattle.stream.proofs.Reading.{read}
 use Rattle.stream.proofs.from_bytes.Statement.{statement}
 use Rattle.stream.proofs.from_bytes.Tie as tie
+
+numbers-requires : tie.Need-numbers-requires
+numbers-requires c κs =
+    let s = c .before .before .before .before .before .before in
+    let at = s .args .at in
+    count-few (take (at + storedLength - (at + 2)) (drop (at + 2) (now (s .args .state)))) .0
 
 returns : tie.Need-returns
 returns c =
@@ -22,4 +30,4 @@ from-bytes-spec =
     tie.close
     (tie.spec
     (λ c. search needs) (λ c. search needs) (λ c. search needs) (λ c κs. search needs) (λ c. search needs) (λ c. search needs)
-    (λ c. search needs) (λ c. search needs) (λ c. search needs) (λ c. search needs) (λ c κs. search needs) returns)
+    (λ c. search needs) (λ c. search needs) (λ c. search needs) (λ c. search needs) numbers-requires returns)

@@ -1,0 +1,137 @@
+/*
+** How firmware feeds the library: a frame every sample time, and each time the decision on the newest 16. The paper mill's line starts up,
+** loses a sample, has its fault, and gets its settings entered anew while the fault is there. What is expected of each frame is worked out
+** below; the program ends with 1 if the relay answers otherwise. Run it with: sh examples/run_feed
+*/
+#include <stdio.h>
+
+#include "mill.h"
+
+/* ---- The firmware: the part to copy ---- */
+
+static uint8_t relay[GORSEPETAL_STATE_LENGTH];       /* records and window; all zero: a fresh relay */
+static uint8_t decision[GORSEPETAL_DECISION_LENGTH]; /* the last one that was made */
+
+/* A field of the decision in sixty-fourths of a count, 32 bits, upper byte first. */
+static int counts(int at) {
+  const uint8_t *word = decision + at;
+  return (16777216 * word[0] + 65536 * word[1] + 256 * word[2] + word[3]) / 64;
+}
+
+/* A decision was made on the frame just fed and the 15 before. How many in a row to trust is the firmware's matter. */
+static void decided(void) {
+  printf("trip %d diff %d mho %d dir %d   phase a: %d of %d counts\n", decision[GORSEPETAL_DECISION_AT_TRIP],
+         decision[GORSEPETAL_DECISION_AT_PHASES], decision[GORSEPETAL_DECISION_AT_LOOPS], decision[GORSEPETAL_DECISION_AT_DIRECTION],
+         counts(GORSEPETAL_DECISION_AT_DIFFERENTIAL_A), counts(GORSEPETAL_DECISION_AT_RESTRAINT_A));
+}
+
+/* Every sample time, with the newest sample of each channel. */
+static uint64_t at_sample_time(const uint8_t frame[FRAME]) {
+  uint64_t answer = gorsepetal_feed(relay, sizeof relay, frame, FRAME, decision, sizeof decision), number = GORSEPETAL_NUMBER(answer);
+  switch (number) {
+  case GORSEPETAL_DONE:
+    decided();
+    break;
+  case GORSEPETAL_TOO_FEW_FRAMES: /* the frame is kept; there is no decision until 16 have come */
+  case GORSEPETAL_MISSING_SAMPLE: /* the frame is kept; there is no decision until the one with the missing sample has gone */
+    printf("no decision: %d at %d, %s\n", (int)number, (int)GORSEPETAL_PLACE(answer), meaning(number));
+    break;
+  default: /* the frame is not kept: no settings are in force (1), or the firmware lends a wrong length (3, 9, 17) */
+    printf("ALARM: %d, %s\n", (int)number, meaning(number));
+  }
+  return answer;
+}
+
+/* Two entries, each in a buffer filled anew. The confirmation empties the window: no decision for the next 15 frames. */
+static uint64_t enter_settings(void) {
+  uint8_t first[GORSEPETAL_RECORD_LENGTH], second[GORSEPETAL_RECORD_LENGTH];
+  fill(first, 15);
+  fill(second, 15);
+  uint64_t answer = gorsepetal_propose(relay, sizeof relay, first, sizeof first);
+  return answer == GORSEPETAL_DONE ? gorsepetal_confirm(relay, sizeof relay, second, sizeof second) : answer;
+}
+
+/* ---- The line ---- */
+
+/* Of each channel the phasor, in counts: Va, Vb, Vc; Ia, Ib, Ic of end 1; the same of end 2. The load is 300 counts, in at end 1 and out at
+** end 2. The fault, of phase a to ground, halves Va and adds 1000 counts in at end 1, of which 400 go out at end 2. */
+typedef struct { int re, im; } Phasor;
+static const Phasor LOAD[CHANNELS] = {{2000, 0}, {-1000, -1732}, {-1000, 1732}, {300, 0}, {-150, -260}, {-150, 260},
+                                      {-300, 0}, {150, 260}, {150, -260}};
+static const Phasor FAULT[CHANNELS] = {{1000, 0}, {-1000, -1732}, {-1000, 1732}, {300, -1000}, {-150, -260}, {-150, 260},
+                                       {-300, 400}, {150, 260}, {150, -260}};
+enum { IB_OF_END_2 = 7 };
+
+/* The frame of a steady wave: re cos - im sin, sixteen frames a cycle. */
+static void sample(const Phasor *line, int n, uint8_t frame[FRAME]) {
+  static const int COSINES[] = {10000, 9239, 7071, 3827, 0, -3827, -7071, -9239, -10000, -9239, -7071, -3827, 0, 3827, 7071, 9239};
+  int cosine = COSINES[n % 16], sine = COSINES[(n + 12) % 16];
+  for (int c = 0; c < CHANNELS; c++) {
+    int x = line[c].re * cosine - line[c].im * sine;
+    put(frame, 2 * c, (x + (x < 0 ? -5000 : 5000)) / 10000);
+  }
+}
+
+/* ---- What happens, and what is expected ---- */
+
+enum { LEFT_OPEN = -1 };
+typedef struct {
+  const char *what;
+  int last;              /* the frame with which it ends */
+  const Phasor *line;
+  int entered, missing;  /* before its first frame the settings are entered; in its first frame Ib of end 2 is missing */
+  uint64_t number;       /* of each answer, and the first four bytes of the decision */
+  int trip, diff, mho, dir;
+} Stretch;
+
+/* The differential of the fault is a wave of 600 counts that begins at a zero: 0, 230, 424, 554 .. From its first 3 frames the transform
+** makes 80 counts beside a restraint of 759, which is 11 percent; from 4 frames 144 beside 856, 17 percent. So with slope 15 the fourth
+** trips. Until the 16th, loops and direction see part load and part fault, and are left open. Then 600 counts stand beside 1044 + 500,
+** AG asserts and the direction is forward, as docs/HAND-CHECKS.md has it for this fault: the load is balanced and in phase with the
+** voltage, so that it adds nothing to 3I2 and nothing to m. */
+static const Stretch STRETCHES[] = {
+  {"The relay starts: no decision before 16 frames have come.", 15, LOAD, .entered = 1, .number = GORSEPETAL_TOO_FEW_FRAMES},
+  {"Load: what flows in flows out.", 20, LOAD, .number = GORSEPETAL_DONE},
+  {"A sample is missing in frame 21. The frame moves through the window, and its place falls by 9, until it has gone.", 36, LOAD,
+   .missing = 1, .number = GORSEPETAL_MISSING_SAMPLE},
+  {"Decided again.", 40, LOAD, .number = GORSEPETAL_DONE},
+  {"The fault begins with frame 41. Three frames of it are below the slope of 15 percent.", 43, FAULT, .number = GORSEPETAL_DONE,
+   .mho = LEFT_OPEN, .dir = LEFT_OPEN},
+  {"The fourth trips. Loops and direction follow as the fault fills the window.", 55, FAULT, .number = GORSEPETAL_DONE, .trip = 1,
+   .diff = GORSEPETAL_PHASE_A, .mho = LEFT_OPEN, .dir = LEFT_OPEN},
+  {"All 16 frames are the fault's.", 58, FAULT, .number = GORSEPETAL_DONE, .trip = 1, .diff = GORSEPETAL_PHASE_A,
+   .mho = GORSEPETAL_LOOP_AG, .dir = GORSEPETAL_DIRECTION_FORWARD},
+  {"The desk enters the same settings anew. The window is empty, so for 15 frames the fault goes unseen.", 73, FAULT, .entered = 1,
+   .number = GORSEPETAL_TOO_FEW_FRAMES},
+  {"And it is seen again.", 75, FAULT, .number = GORSEPETAL_DONE, .trip = 1, .diff = GORSEPETAL_PHASE_A, .mho = GORSEPETAL_LOOP_AG,
+   .dir = GORSEPETAL_DIRECTION_FORWARD},
+};
+
+static int as_expected(const Stretch *s, int since, uint64_t answer) {
+  int place = s->missing ? CHANNELS * (15 - since) + IB_OF_END_2 : 0;
+  if (answer != 256 * (uint64_t)place + s->number) return 0;
+  return s->number != GORSEPETAL_DONE ||
+         (decision[GORSEPETAL_DECISION_AT_TRIP] == s->trip && decision[GORSEPETAL_DECISION_AT_PHASES] == s->diff &&
+          (s->mho == LEFT_OPEN || decision[GORSEPETAL_DECISION_AT_LOOPS] == s->mho) &&
+          (s->dir == LEFT_OPEN || decision[GORSEPETAL_DECISION_AT_DIRECTION] == s->dir));
+}
+
+int main(void) {
+  int n = 0, faults = 0;
+  for (size_t k = 0; k < sizeof STRETCHES / sizeof STRETCHES[0]; k++) {
+    const Stretch *s = &STRETCHES[k];
+    printf("%s\n", s->what);
+    if (s->entered && enter_settings() != GORSEPETAL_DONE) return 1;
+    for (int since = 0; n < s->last; since++) {
+      uint8_t frame[FRAME];
+      sample(s->line, n++, frame);
+      if (s->missing && since == 0) put(frame, 2 * IB_OF_END_2, GORSEPETAL_MISSING);
+      printf("  frame %2d  ", n);
+      if (as_expected(s, since, at_sample_time(frame))) continue;
+      printf("  NOT AS EXPECTED\n");
+      faults++;
+    }
+  }
+  printf("%d frames: %s\n", n, faults ? "NOT ALL AS EXPECTED" : "all as expected");
+  return faults != 0;
+}

@@ -1,0 +1,157 @@
+/* What the C test lends to the five calls, with guard bytes around each slice, and how an answer and what it leaves are checked. */
+#include <stdio.h>
+#include <string.h>
+
+#include "lent.h"
+
+enum { AROUND = 0xA5, LATER = 0x5A };
+
+const uint8_t good[RECORD] = {
+    0x00, 0x02, 0x00, 0x0F, 0x00, 0x64, 0x00, 0x00, 0x03, 0xE8, 0x03, 0x52, 0x02, 0x9B, 0x00, 0x00,
+    0x00, 0x00, 0x03, 0xE8, 0xFE, 0xD4, 0x01, 0x2C, 0x00, 0x32, 0x00, 0x00, 0x00, 0x00, 0x00, 0x00,
+};
+const uint8_t zeros[STATE];
+uint8_t other[RECORD], bad[RECORD], some_window[STATE - COUNT];
+
+void set_up(void) {
+  memcpy(other, good, RECORD);
+  other[3] = 50;
+  memcpy(bad, good, RECORD);
+  bad[3] = 0;
+  for (int k = 0; k < STATE - COUNT; k++) some_window[k] = (uint8_t)(1 + k % 251);
+}
+
+/* Checks */
+
+int checks, faults;
+static const char *case_name;
+
+int run_cases(const struct test_case *cases) {
+  int count = 0;
+  for (; cases[count].name != 0; count++) {
+    case_name = cases[count].name;
+    cases[count].run();
+  }
+  return count;
+}
+
+void check(const char *what, uint64_t got, uint64_t wanted) {
+  checks++;
+  if (got == wanted) return;
+  faults++;
+  printf("FAIL %s, %s: got %d at %d, wanted %d at %d\n", case_name, what, (int)GORSEPETAL_NUMBER(got), (int)GORSEPETAL_PLACE(got),
+         (int)GORSEPETAL_NUMBER(wanted), (int)GORSEPETAL_PLACE(wanted));
+}
+
+void check_bytes(const char *what, const uint8_t *got, const uint8_t *wanted, size_t length) {
+  checks++;
+  if (memcmp(got, wanted, length) == 0) return;
+  faults++;
+  printf("FAIL %s, %s: other bytes than wanted\n", case_name, what);
+}
+
+/* Slices */
+
+struct lent state, out;
+
+void put(uint8_t *bytes, int at, int number) {
+  bytes[at] = (uint8_t)((unsigned)number >> 8);
+  bytes[at + 1] = (uint8_t)number;
+}
+
+uint64_t refused(uint64_t number, uint64_t place) { return 256 * place + number; }
+
+void lend(struct lent *slice, const uint8_t *bytes, size_t length) {
+  memset(slice->all, AROUND, sizeof slice->all);
+  memcpy(slice->all + GUARD, bytes, length);
+  slice->length = length;
+}
+
+void lend_state(const uint8_t *in_force, const uint8_t *pending) {
+  uint8_t bytes[STATE];
+  memcpy(bytes, in_force, RECORD);
+  memcpy(bytes + RECORD, pending, RECORD);
+  memcpy(bytes + COUNT, some_window, STATE - COUNT);
+  lend(&state, bytes, STATE);
+}
+
+void state_is(const uint8_t *in_force, const uint8_t *pending, const uint8_t *window) {
+  check_bytes("record in force", state.all + GUARD, in_force, RECORD);
+  check_bytes("pending record", state.all + GUARD + RECORD, pending, RECORD);
+  check_bytes("window in the state", state.all + GUARD + COUNT, window, STATE - COUNT);
+}
+
+static void lend_out(size_t room) {
+  uint8_t bytes[ROOM];
+  memset(bytes, LATER, sizeof bytes);
+  lend(&out, bytes, room);
+}
+
+static void later_untouched(size_t from) {
+  uint8_t bytes[ROOM];
+  memset(bytes, LATER, sizeof bytes);
+  check_bytes(from == 0 ? "out" : "later bytes of out", out.all + GUARD + from, bytes, out.length - from);
+}
+
+void out_untouched(void) { later_untouched(0); }
+
+void out_is(const char *what, const uint8_t *bytes) {
+  check_bytes(what, out.all + GUARD, bytes, DECISION);
+  later_untouched(DECISION);
+}
+
+static void guards_kept(const char *what, const struct lent *slice) {
+  uint8_t guard[GUARD + ROOM];
+  memset(guard, AROUND, sizeof guard);
+  check_bytes(what, slice->all, guard, GUARD);
+  check_bytes(what, slice->all + GUARD + slice->length, guard, sizeof slice->all - GUARD - slice->length);
+}
+
+/* Calls */
+
+static uint64_t enter(uint64_t (*call)(uint8_t *, size_t, const uint8_t *, size_t), const uint8_t *bytes, size_t length) {
+  struct lent entry, before;
+  lend(&entry, bytes, length);
+  before = entry;
+  uint64_t answer = call(state.all + GUARD, state.length, entry.all + GUARD, entry.length);
+  check_bytes("entry", entry.all, before.all, sizeof entry.all);
+  guards_kept("around the state", &state);
+  return answer;
+}
+
+uint64_t propose(const uint8_t *bytes, size_t length) { return enter(gorsepetal_propose, bytes, length); }
+uint64_t confirm(const uint8_t *bytes, size_t length) { return enter(gorsepetal_confirm, bytes, length); }
+
+uint64_t read_back(size_t room) {
+  struct lent before = state;
+  lend_out(room);
+  uint64_t answer = gorsepetal_read_back(state.all + GUARD, state.length, out.all + GUARD, out.length);
+  check_bytes("state", state.all, before.all, sizeof state.all);
+  guards_kept("around out", &out);
+  return answer;
+}
+
+uint64_t decide(const uint8_t *bytes, size_t length, size_t room) {
+  struct lent before = state, samples, window;
+  lend(&samples, bytes, length);
+  window = samples;
+  lend_out(room);
+  uint64_t answer =
+      gorsepetal_decide(state.all + GUARD, state.length, samples.all + GUARD, samples.length, out.all + GUARD, out.length);
+  check_bytes("state", state.all, before.all, sizeof state.all);
+  check_bytes("samples", samples.all, window.all, sizeof samples.all);
+  guards_kept("around out", &out);
+  return answer;
+}
+
+uint64_t feed(const uint8_t *bytes, size_t length, size_t room) {
+  struct lent frame, before;
+  lend(&frame, bytes, length);
+  before = frame;
+  lend_out(room);
+  uint64_t answer = gorsepetal_feed(state.all + GUARD, state.length, frame.all + GUARD, frame.length, out.all + GUARD, out.length);
+  check_bytes("frame", frame.all, before.all, sizeof frame.all);
+  guards_kept("around the state", &state);
+  guards_kept("around out", &out);
+  return answer;
+}

@@ -1,0 +1,74 @@
+/* What the C test lends to the five calls, with guard bytes around each slice, and how an answer and what it leaves are checked. */
+#ifndef TESTS_LENT_H
+#define TESTS_LENT_H
+#include "gorsepetal.h"
+
+enum {
+  RECORD = GORSEPETAL_RECORD_LENGTH,
+  STATE = GORSEPETAL_STATE_LENGTH,
+  COUNT = GORSEPETAL_STATE_AT_COUNT, /* where the state's window begins: a count of frames, then the numbers */
+  NUMBERS = GORSEPETAL_STATE_AT_NUMBERS,
+  DECISION = GORSEPETAL_DECISION_LENGTH,
+  CHANNELS = GORSEPETAL_CHANNELS(2), /* of the good record; so are the next two */
+  FRAME = GORSEPETAL_FRAME_BYTES(2),
+  WINDOW = GORSEPETAL_WINDOW_BYTES(2),
+  LONGEST = GORSEPETAL_WINDOW_BYTES(6), /* of any record */
+  ROOM = STATE + FRAME,                 /* for the longest slice that is lent */
+  GUARD = 9, /* so every slice begins at an odd address */
+};
+
+/* A slice with guard bytes before it and from its end on. */
+struct lent {
+  uint8_t all[GUARD + ROOM + GUARD];
+  size_t length;
+};
+extern struct lent state, out;
+
+/* The record of document 01, "Window program"; another good one, with slope 50; and one that propose refuses, with slope 0. */
+extern const uint8_t good[RECORD], zeros[STATE];
+extern uint8_t other[RECORD], bad[RECORD];
+
+/* The window that lend_state puts into the state: bytes of no meaning, which have to stay wherever a call is not to change them. */
+extern uint8_t some_window[STATE - COUNT];
+
+/* Fills these; to be called once. */
+void set_up(void);
+
+/* A case by its name. A table of cases ends with one that has none. */
+struct test_case {
+  const char *name;
+  void (*run)(void);
+};
+extern const struct test_case entry_cases[], decide_cases[], feed_cases[];
+
+/* Runs the cases of a table; gives back how many. */
+int run_cases(const struct test_case *cases);
+
+/* Checks so far, and those that failed. A check that fails prints the name of its case. */
+extern int checks, faults;
+void check(const char *what, uint64_t got, uint64_t wanted);
+void check_bytes(const char *what, const uint8_t *got, const uint8_t *wanted, size_t length);
+
+void put(uint8_t *bytes, int at, int number);
+uint64_t refused(uint64_t number, uint64_t place);
+
+/* A relay with these two records and some window, or a slice of any bytes in its place. */
+void lend_state(const uint8_t *in_force, const uint8_t *pending);
+void lend(struct lent *slice, const uint8_t *bytes, size_t length);
+
+/* What the state has to be. */
+void state_is(const uint8_t *in_force, const uint8_t *pending, const uint8_t *window);
+
+/* The calls, on the state that was lent. The bytes that are given are lent with guards: they must stay, and so must all guards. The state
+** must stay too if the call is read-back or decide. Those that write get a new buffer with this room. */
+uint64_t propose(const uint8_t *bytes, size_t length);
+uint64_t confirm(const uint8_t *bytes, size_t length);
+uint64_t read_back(size_t room);
+uint64_t decide(const uint8_t *bytes, size_t length, size_t room);
+uint64_t feed(const uint8_t *bytes, size_t length, size_t room);
+
+/* What the buffer has to be: as it was, or 32 bytes and the rest as it was. */
+void out_untouched(void);
+void out_is(const char *what, const uint8_t *bytes);
+
+#endif
