@@ -73,7 +73,7 @@ HearsOverHistories =
     (fs : List (List ℕ)) (s f out : List ℕ) (n : ℕ) (s₁ out₁ : List ℕ) → HasKept fs s → Every Byte f → Fed s f out n s₁ out₁ → IsKept n
     → Heard (fs ++ (f ∷ [])) s out n out₁
 
--- "Refusal 4 comes for as long as it is among the 16": a missing sample's place falls by a frame's numbers with each frame that is kept, until
+-- "refusal 4 comes for as long as it is among the 16": a missing sample's place falls by a frame's numbers with each frame that is kept, until
 -- it stood in the oldest frame.
 abbrev pub PlaceFalls : Type 0
 PlaceFalls =

@@ -1,5 +1,6 @@
--- Document 01, "What a reader may rely on", with what document 02 adds, as one statement: each field is a promise about the calls, by name. proofs/Reader.antt is its
--- witness. That a call ends and keeps to what it was lent is what it means to be proved; the window program's lines are proved in `report`.
+-- Document 01, "What a reader may rely on", with what document 02 adds, as one statement: each field is a promise about the calls, by name.
+-- proofs/Reader.antt is its witness. That a call ends and keeps to what it was lent is what it means to be proved; the window program's lines
+-- are proved in `report`.
 use Rattle.settings.specs.Examples.{AsFound, ByOffset}
 use Rattle.distance.specs.Laws.{MhoRule, LargerReach, NoPolarising, NoPositive, NeverBoth, ForwardRule, ReverseRule}
 use Rattle.differential.specs.Laws.{OperatesRule, SmallerSlope, NoneAt100, NeverTooSmall, ZeroWindow}

@@ -9,14 +9,12 @@ ghost use Rattle.decision.specs.Decision.{decisionLength};
 ghost use Rattle.feed.specs.Feed.{numbersOfFrame, recordOf, KeptFrame, Fed};
 use answers::Answer;
 use samples::FRAMES;
+use stream::FULL;
 
 // The record in force lies at the front of the state.
 const RECORD: usize = 0;
 
 const RECORD_END: usize = 32;
-
-// The count of a full window.
-const FULL: u16 = FRAMES as u16;
 
 // How many numbers the longest frame has, that of six ends.
 const LONGEST_FRAME: usize = samples::LONGEST / FRAMES;
@@ -29,7 +27,8 @@ fn frame_length(s: &[u8]) -> usize
     samples::channels(settings::fields::ends(s) as usize)
 }
 
-// A frame of the right length, with room for a decision, is kept. It is refused while there are fewer than 16; then the newest 16 are decided on.
+// A frame of the right length, with room for a decision, is kept. It is refused while there are fewer than 16; then the newest 16 are
+// decided on.
 fn kept(state: &mut [u8], at: usize, frame: &[u8], out: &mut [u8]) -> Answer
     requires { ⌜ Ranges (recordOf (now state)) × (recordLength ≤ at) × (at + storedLength ≤ length (now state)) × (length (now frame) ≡ 2 * numbersOfFrame (recordOf (now state))) × (decisionLength ≤ length (now out)) ⌝ }
     ensures { λ a. ⌜ KeptFrame at (now (state .entry)) (now (frame .entry)) (now (out .entry)) a (now (state .exit)) (now (out .exit)) ⌝ }

@@ -12,7 +12,7 @@ use samples::FRAMES;
 use samples::LONGEST;
 
 // The count of a window that has all its frames.
-const FULL: u16 = FRAMES as u16;
+pub const FULL: u16 = FRAMES as u16;
 
 // How many bytes a window takes in the state: its count and its numbers.
 pub const STORED_LENGTH: usize = 2 + 2 * LONGEST;
