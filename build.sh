@@ -30,9 +30,11 @@ built=build/libgorsepetal.a
 archive=${GORSEPETAL_ARCHIVE:-$built}
 mkdir -p build
 
+# rt staticlib proves what the library stands on one crate after another; rt check, as many at a time as there are processors.
 archive() {
   echo "proving crates/gorsepetal and writing $built: some minutes from nothing" >&2
-  rt staticlib gorsepetal >build/gorsepetal.log 2>&1 || { cat build/gorsepetal.log >&2; fail "crates/gorsepetal was not proved"; }
+  below=$(sed -n 's/^gorsepetal://p' crates.txt)
+  { rt check $below && rt staticlib gorsepetal; } >build/gorsepetal.log 2>&1 || { cat build/gorsepetal.log >&2; fail "crates/gorsepetal was not proved"; }
   cp target/staticlib/libgorsepetal.a "$built"
 }
 

@@ -98,10 +98,10 @@ stays {fs} {s} {t} h l w r =
     }
 
 -- zero bytes are an empty window
-empty : (s : List ℕ) → length s ≡ stateLength → drop 64 s ≡ replicate storedLength 0 → Holds [] s
+empty : (s : List ℕ) → length s ≡ stateLength → drop windowOffset s ≡ replicate storedLength 0 → Holds [] s
 unfolding after
 empty s l zeros =
-    let none-is : windowOf s ≡ none = fresh-none s 64 (omega arith) (ap (take 674) zeros) in
+    let none-is : windowOf s ≡ none = fresh-none s windowOffset (omega arith) (ap (take storedLength) zeros) in
     record { relay = l; whole = tt; sound = rw none-is none-sound; window = none-is }
 
 -- one frame more
@@ -131,7 +131,7 @@ module _ (fs : List (List ℕ)) (s f out : List ℕ) (n : ℕ) (s₁ out₁ : Li
   moved =
       let l = h .relay in
       let state : s₁ ≡ withKept r windowOffset s f = c .state ∙ rw (keeps-done s f out keep) in
-      ap windowOf state ∙ kept-read s 64 frames m (numbersOf f) (h .sound) (omega arith) fits (held m f (keep .whole)) (numbers-samples f bytes)
+      ap windowOf state ∙ kept-read s windowOffset frames m (numbersOf f) (h .sound) (omega arith) fits (held m f (keep .whole)) (numbers-samples f bytes)
 
   one-more : Holds (fs ++ (f ∷ [])) s₁
   one-more =

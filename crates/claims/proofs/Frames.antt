@@ -71,7 +71,7 @@ module _ (s f out : List ℕ) where
 
     -- the window has 336 numbers, before this frame and with it
     pub was-full : length (windowOf s .numbers) ≡ windowLength 6
-    was-full = let l = k .relay in held (windowLength 6) (take numberBytes (drop 66 s)) (part-holds s 64 (omega arith))
+    was-full = let l = k .relay in held (windowLength 6) _ (part-holds s windowOffset (omega arith))
 
     pub full : length (withFrame r (windowOf s) f .numbers) ≡ windowLength 6
     full = moved-length frames m (windowOf s .numbers) (numbersOf f) (omega (arith, few, was-full)) (held m f (k .whole)) ∙ was-full

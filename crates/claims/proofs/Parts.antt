@@ -8,7 +8,7 @@ use lib.Seq.{take-take, drop-drop, getD-drop}
 use Rattle.lent.specs.Lent.{over}
 use Rattle.lent.proofs.Over.{over-before, over-behind, over-length}
 use Rattle.samples.specs.Window.{numbersOf}
-use Rattle.stream.specs.Stored.{storedLength}
+use Rattle.stream.specs.Stored.{numberBytes, storedLength}
 use Rattle.stream.proofs.Moving.{take-drop}
 use Rattle.entry.specs.Pair.{Pair}
 use Rattle.entry.proofs.Done.{FullPair}
@@ -20,27 +20,28 @@ pub same-pair : (s t : List ℕ) → length s ≡ stateLength → length t ≡ s
 same-pair s t l k e =
     ap₂
     (λ (f p : List ℕ). record { force = f; pending = p })
-    (sym (take-take 32 64 s (omega arith)) ∙ ap (take 32) e ∙ take-take 32 64 t (omega arith))
+    (sym (take-take 32 windowOffset s (omega arith)) ∙ ap (take 32) e ∙ take-take 32 windowOffset t (omega arith))
     (take-drop 32 32 s (omega arith) ∙ ap (drop 32) e ∙ sym (take-drop 32 32 t (omega arith)))
 
 -- and the window from its own
 pub same-window : (s t : List ℕ) → windowPart s ≡ windowPart t → windowOf s ≡ windowOf t
 same-window s t e =
-    let numbers : drop 66 s ≡ drop 66 t = sym (drop-drop 2 64 s) ∙ ap (drop 2) e ∙ drop-drop 2 64 t in
-    let byte : (i : ℕ) → getD s (64 + i) 0 ≡ getD t (64 + i) 0 = λ i. sym (getD-drop 64 s i 0) ∙ ap (λ (l : List ℕ). getD l i 0) e ∙ getD-drop 64 t i 0 in
+    let numbers : drop (windowOffset + 2) s ≡ drop (windowOffset + 2) t = sym (drop-drop 2 windowOffset s) ∙ ap (drop 2) e ∙ drop-drop 2 windowOffset t in
+    let byte : (i : ℕ) → getD s (windowOffset + i) 0 ≡ getD t (windowOffset + i) 0 =
+    λ i. sym (getD-drop windowOffset s i 0) ∙ ap (λ (l : List ℕ). getD l i 0) e ∙ getD-drop windowOffset t i 0 in
     ap₂
-    (λ (x : List ℕ) (n : ℕ). record { numbers = numbersOf (take 672 x); count = n })
+    (λ (x : List ℕ) (n : ℕ). record { numbers = numbersOf (take numberBytes x); count = n })
     numbers
     (ap₂ (λ (x y : ℕ). x * 256 + y) (byte 0) (byte 1))
 
 -- bytes written over the window
 module _ (s x : List ℕ) (l : length s ≡ stateLength) where
   pub pair-stays : pairPart (over s windowOffset x) ≡ pairPart s
-  pair-stays = over-before s 64 x (omega arith)
+  pair-stays = over-before s windowOffset x (omega arith)
 
   module _ (few : length x ≤ storedLength) where
     pub over-window-length : length (over s windowOffset x) ≡ stateLength
-    over-window-length = over-length s 64 x (omega arith) ∙ l
+    over-window-length = over-length s windowOffset x (omega arith) ∙ l
 
     pub settings-stay : settingsOf (over s windowOffset x) ≡ settingsOf s
     settings-stay = same-pair (over s windowOffset x) s over-window-length l pair-stays
@@ -51,5 +52,5 @@ part-stays s p w =
     let hf = w .force in
     let hp = w .pending in
     let x : List ℕ = p .force ++ p .pending in
-    let end : 0 + length x + 0 ≡ 64 = simp (length-append, hf, hp) (omega arith) in
+    let end : 0 + length x + 0 ≡ windowOffset = simp (length-append, hf, hp) (omega arith) in
     ap (λ (n : ℕ). drop n (over s 0 x)) (sym end) ∙ over-behind s 0 x (omega arith) 0 ∙ ap (λ (n : ℕ). drop n s) end

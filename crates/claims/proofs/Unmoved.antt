@@ -60,8 +60,8 @@ feed-leaves-settings s f out n s₁ out₁ l c = by-test (isDone (feedKeeps s f 
 emptied-part : (s : List ℕ) → length s ≡ stateLength → windowPart (emptied s) ≡ replicate storedLength 0
 emptied-part s l =
     let x = stored none in
-    let long : length x ≡ 674 = ap length none-stored in
-    over-from s 64 x (omega arith) ∙ ap (λ (y : List ℕ). x ++ y) (drop-of-length-le s {i = 64 + length x} (omega (arith, long))) ∙ append-nil x ∙ none-stored
+    let long : length x ≡ storedLength = ap length none-stored in
+    over-from s windowOffset x (omega arith) ∙ ap (λ (y : List ℕ). x ++ y) (drop-of-length-le s {i = windowOffset + length x} (omega (arith, long))) ∙ append-nil x ∙ none-stored
 
 module _ (s e : List ℕ) (l : length s ≡ stateLength) where
   abbrev answer : Answer

@@ -53,8 +53,8 @@ module _ {at : ℕ} {s f out : List ℕ} {m : ℕ} (many : m ≡ numbersOfFrame 
 
 -- ---- a frame that is kept
 
--- the numbers of a frame, as the code takes them out of its bytes
-frame-numbers : (m : ℕ) (f : List ℕ) (xs : List ℤ) → HoldsNumbers m f → m ≤ 21 → take (count f) xs ≡ take (count f) (numbersOf f) → take m xs ≡ numbersOf f
+-- the first m numbers that the code took out of a frame's bytes
+pub frame-numbers : (m : ℕ) (f : List ℕ) (xs : List ℤ) → HoldsNumbers m f → m ≤ 21 → take (count f) xs ≡ take (count f) (numbersOf f) → take m xs ≡ numbersOf f
 frame-numbers m f xs h few e =
     let c : count f ≡ m = sym (count-all f (omega arith) (omega arith)) ∙ omega arith in
     (rw c at e) ∙ count-held m f h
@@ -68,19 +68,14 @@ pub ranges-stay : (at : ℕ) (s : List ℕ) (m : ℕ) (x : List ℤ) (s₁ : Lis
 ranges-stay at s m x s₁ far room put g = rw (put, record-stays s _ at far (omega arith)) g
 
 module _
-    (at : ℕ) (s f : List ℕ) (m c : ℕ) (xs : List ℤ) (w : Window) (s₁ : List ℕ)
-    (many : m ≡ numbersOfFrame (recordOf s)) (few : m ≤ 21) (whole : length f ≡ 2 * numbersOfFrame (recordOf s)) (same : c ≡ m)
-    (taken : take (count f) xs ≡ take (count f) (numbersOf f))
-    (moved : w ≡ movedOn frames m (windowAt s at) (take c xs)) (put : s₁ ≡ kept frames m at s (take c xs)) where
-  newest : take c xs ≡ numbersOf f
-  newest = ap (λ (k : ℕ). take k xs) same ∙ frame-numbers m f xs (rw (← many) at whole) few taken
-
-  -- what `keep` promises of the numbers that the code took out of the frame
+    (at : ℕ) (s f : List ℕ) (m : ℕ) (w : Window) (s₁ : List ℕ)
+    (many : m ≡ numbersOfFrame (recordOf s)) (few : m ≤ 21) (whole : length f ≡ 2 * numbersOfFrame (recordOf s))
+    (moved : w ≡ movedOn frames m (windowAt s at) (numbersOf f)) (put : s₁ ≡ kept frames m at s (numbersOf f)) where
   the-window : w ≡ withFrame (recordOf s) (windowAt s at) f
-  the-window = moved ∙ ap₂ (λ (k : ℕ) (x : List ℤ). movedOn frames k (windowAt s at) x) many newest
+  the-window = moved ∙ ap (λ (k : ℕ). movedOn frames k (windowAt s at) (numbersOf f)) many
 
-  pub the-state : s₁ ≡ withKept (recordOf s) at s f
-  the-state = put ∙ ap₂ (λ (k : ℕ) (x : List ℤ). kept frames k at s x) many newest
+  the-state : s₁ ≡ withKept (recordOf s) at s f
+  the-state = put ∙ ap (λ (k : ℕ). kept frames k at s (numbersOf f)) many
 
   pub kept-10 : {out out₁ : List ℕ} {a : Answer} → w .count < 16 → a ≡ TooFewFrames → out₁ ≡ out → KeptFrame at s f out a s₁ out₁
   kept-10 {out} {out₁} {a} less e eo =
