@@ -31,7 +31,7 @@ fn frame_length(s: &[u8]) -> usize
 }
 
 // The frame's bytes become numbers, which are kept in the window from `at` on. The window as it is now comes back.
-fn keep(state: &mut [u8], at: usize, frame: &[u8], channels: usize) -> Window
+fn keep_bytes(state: &mut [u8], at: usize, frame: &[u8], channels: usize) -> Window
     requires { ⌜ (at + storedLength ≤ length (now state)) × (channels ≤ 21) × (length (now frame) ≡ 2 * channels) ⌝ }
     ensures { λ w. ⌜ (w ≡ movedOn frames channels (windowAt (now (state .entry)) at) (numbersOf (now (frame .entry))))
         × (now (state .exit) ≡ kept frames channels at (now (state .entry)) (numbersOf (now (frame .entry)))) ⌝ }
@@ -48,7 +48,7 @@ fn kept(state: &mut [u8], at: usize, frame: &[u8], out: &mut [u8]) -> Answer
     ensures { λ a. ⌜ KeptFrame at (now (state .entry)) (now (frame .entry)) (now (out .entry)) a (now (state .exit)) (now (out .exit)) ⌝ }
 {
     let channels = frame_length(&state[RECORD..RECORD_END]);
-    let window = keep(state, at, frame, channels);
+    let window = keep_bytes(state, at, frame, channels);
     if window.count < FULL {
         return Answer::TooFewFrames;
     }

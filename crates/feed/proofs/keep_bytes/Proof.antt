@@ -1,4 +1,4 @@
--- `feed::keep` meets its contract: what the code took out of the frame's bytes are its numbers.
+-- `feed::keep_bytes` meets its contract: what the code took out of the frame's bytes are its numbers.
 use Prim.Native.Nat.{ℕ, _-_}
 use mathlib.Core.Path.{_≡_, ap, _∙_}
 use mathlib.Core.List.{List}
@@ -11,8 +11,8 @@ use lib.ListN.{take}
 use Rattle.samples.specs.Window.{numbersOf}
 use Rattle.samples.proofs.Bytes.{count-few}
 use Rattle.feed.proofs.Cases.{frame-numbers}
-use Rattle.feed.proofs.keep.Statement.{statement}
-use Rattle.feed.proofs.keep.Tie as tie
+use Rattle.feed.proofs.keep_bytes.Statement.{statement}
+use Rattle.feed.proofs.keep_bytes.Tie as tie
 
 numbers-requires : tie.Need-numbers-requires
 numbers-requires c κs =
@@ -30,8 +30,8 @@ returns c =
     let same : take (n - 0) xs ≡ numbersOf f = ap (λ (i : ℕ). take i xs) (sub-zero n) ∙ frame-numbers n f xs (p .pre .2) (p .pre .1) (m .numbers2 .ensures) in
     (rw same at (k .keep .ensures .0), rw same at (k .keep .ensures .1))
 
-pub keep-spec : {M : Type 1} → statement M
-keep-spec =
+pub keep-bytes-spec : {M : Type 1} → statement M
+keep-bytes-spec =
     tie.close
     (tie.spec
     (λ c. search) numbers-requires (λ c. search needs) (λ c. search needs) (λ c. search needs) (λ c κs. search needs) (λ c. search)
