@@ -6,13 +6,17 @@ use mathlib.Core.Logic.{_⊎_, inl, inr, ⊎-elim}
 use mathlib.Core.List.{List, [], _∷_, _++_}
 use mathlib.Core.Bool.{Bool, true, false, cond, false≢true, _&&_, _||_}
 use native.Mathlib.Omega.{arith}
+use borrow.Author.Tests.{eqb-true}
+use lib.Dec.{eqb}
 use lib.IntN.{ℤ, pos}
 use lib.ListN.{drop}
 use lib.Signed.{_<ℤ_}
+use Rattle.whole.specs.Bits.{bits}
 use Rattle.whole.specs.Exactly.{Exactly}
 use Rattle.whole.specs.Root.{floorRoot}
+use Rattle.claims.specs.Bits.{BitsTell}
 use Rattle.claims.proofs.Bits.{Each, bits-tell, any-of}
-use Rattle.settings.specs.Fields.{ends, slope, pickup, reach, forwardLimit, reverseLimit}
+use Rattle.settings.specs.Fields.{ends, slope, pickup, reach, forwardLimit, reverseLimit, secondReach}
 use Rattle.distance.specs.declared.direction.Direction.{Direction}
 use Rattle.distance.specs.declared.direction.Direction.the-variants as direction
 use Rattle.distance.specs.Sequence.{negativeSequence}
@@ -20,7 +24,7 @@ use Rattle.distance.specs.Constants.{replica}
 use Rattle.distance.specs.Direction.{directionOf, directionNumber}
 use Rattle.distance.specs.declared.mho.Loop.{Loop}
 use Rattle.distance.specs.declared.mho.SixLoops.{SixLoops}
-use Rattle.distance.specs.Mho.{asserts, loopBits}
+use Rattle.distance.specs.Mho.{ratioOf, ratiosOf, asserts, loopBits}
 use Rattle.distance.proofs.Laws.{mho-rule, forward-rule, reverse-rule}
 use Rattle.differential.specs.Differential.{comparison, magnitude, operates, operatingBits}
 use Rattle.differential.proofs.Rule.{operates-rule}
@@ -98,18 +102,35 @@ module _ (s : List ℕ) (w : List ℤ) where
   each-phase : Each operate (phaseFacts s w)
   each-phase = (operates-rule _ _ _, (operates-rule _ _ _, (operates-rule _ _ _, tt)))
 
-  abbrev asserting : Loop → Bool
-  asserting l = asserts (replica s) (pos (reach s)) l
-
   abbrev six : SixLoops
   six = sixLoops s w
 
-  abbrev assert : List Bool
-  assert =
-      asserting (six .ag) ∷ asserting (six .bg) ∷ asserting (six .cg) ∷ asserting (six .ab) ∷ asserting (six .bc) ∷ asserting (six .ca) ∷ []
+  -- at a reach: of either zone
+  module _ (r : ℕ) where
+    abbrev asserting : Loop → Bool
+    asserting l = asserts (pos r) (ratioOf (replica s) l)
 
-  each-loop : Each assert (loopFacts s w)
-  each-loop = (mho-rule _ _ _, (mho-rule _ _ _, (mho-rule _ _ _, (mho-rule _ _ _, (mho-rule _ _ _, (mho-rule _ _ _, tt))))))
+    abbrev pub assert : List Bool
+    assert =
+        asserting (six .ag) ∷ asserting (six .bg) ∷ asserting (six .cg) ∷ asserting (six .ab) ∷ asserting (six .bc) ∷ asserting (six .ca) ∷ []
+
+    each-loop : Each assert (loopFacts s w r)
+    each-loop = (mho-rule _ _, (mho-rule _ _, (mho-rule _ _, (mho-rule _ _, (mho-rule _ _, (mho-rule _ _, tt))))))
+
+    few-bits : bits assert < 64
+    few-bits = omega (arith, most (asserting (six .ag)), most (asserting (six .bg)), most (asserting (six .cg)), most (asserting (six .ab)), most (asserting (six .bc)), most (asserting (six .ca)))
+
+  -- byte 4, by whether the second zone is off
+  abbrev pub second : Bool → ℕ
+  second off = cond off 0 (bits (assert (secondReach s)))
+
+  second-tells : (off : Bool) → eqb (secondReach s) 0 ≡ off → (secondReach s ≡ 0 → ⊥) → BitsTell (second off) 0 (loopFacts s w (secondReach s))
+  second-tells true t on = absurd (on (eqb-true (secondReach s) 0 t))
+  second-tells false t on = bits-tell (assert (secondReach s)) (loopFacts s w (secondReach s)) (each-loop (secondReach s))
+
+  second-few : (off : Bool) → second off < 64
+  second-few true = omega arith
+  second-few false = few-bits (secondReach s)
 
   restraint-word : (rest : List ℕ) (p : ℕ) → p < 3 → wordAt (decision s w ++ rest) (8 + 4 * p) ≡ restraintOf s w p
   unfolding findings
@@ -134,18 +155,21 @@ module _ (s : List ℕ) (w : List ℤ) where
       let forward = forward-rule s v2 i2 in
       let reverse = reverse-rule s v2 i2 order in
       let ahead : Exactly (isForward d ≡ true) (DirectionForward s w) = (λ t. forward .0 (forward-is d t), λ f. ap isForward (forward .1 f)) in
-      let trips = rule _ _ _ (any-of operate (phaseFacts s w) each-phase) ahead (any-of assert (loopFacts s w) each-loop) in
+      let trips = rule _ _ _ (any-of operate (phaseFacts s w) each-phase) ahead (any-of (assert (reach s)) (loopFacts s w (reach s)) (each-loop (reach s))) in
       record {
         trip = one _ trips;
         no-trip = nought _ trips;
         phase-bits = bits-tell operate (phaseFacts s w) each-phase;
         three-bits = omega (arith, most (operating 0), most (operating 1), most (operating 2));
-        loop-bits = bits-tell assert (loopFacts s w) each-loop;
-        six-bits = omega (arith, most (asserting (six .ag)), most (asserting (six .bg)), most (asserting (six .cg)), most (asserting (six .ab)), most (asserting (six .bc)), most (asserting (six .ca)));
+        loop-bits = bits-tell (assert (reach s)) (loopFacts s w (reach s)) (each-loop (reach s));
+        six-bits = few-bits (reach s);
         forward = (λ e. forward .0 (number-1 d e), λ f. ap directionNumber (forward .1 f));
         reverse = (λ e. reverse .0 (number-2 d e), λ f. ap directionNumber (reverse .1 f));
         none = (λ e. (λ f. one-not-zero (sym (ap directionNumber (forward .1 f)) ∙ e), λ r. two-not-zero (sym (ap directionNumber (reverse .1 r)) ∙ e)), λ neither. number-0 d (λ f. neither .0 (forward .0 f)) (λ r. neither .1 (reverse .0 r)));
-        zero-bytes = (refl, refl, refl, refl);
+        second-zone-bits = second-tells (eqb (secondReach s) 0) refl;
+        second-six-bits = second-few (eqb (secondReach s) 0);
+        second-zone-off = λ off. rw off;
+        zero-bytes = (refl, refl, refl);
         restraints = restraint-word rest;
         magnitudes = magnitude-word rest;
       }

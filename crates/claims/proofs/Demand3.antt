@@ -15,7 +15,7 @@ use Rattle.claims.proofs.Bits.{bit-is, none-told}
 use Rattle.plane.specs.Plane.{plus, minus, times, scaled, rounded, minusJ, dot, squaredMagnitude}
 use Rattle.phasors.specs.Sums.{withSample, sumTo, phasorOf}
 use Rattle.phasors.specs.Grid.{total}
-use Rattle.settings.specs.Fields.{ends, slope, pickup}
+use Rattle.settings.specs.Fields.{ends, slope, pickup, reach}
 use Rattle.settings.specs.Examples.{exampleRecord}
 use Rattle.differential.specs.Demand3.{band, NotBelow, Above, exactMagnitude, L}
 use Rattle.differential.specs.Differential.{square, endRestraint, restraint, comparison, operates, operatingBits}
@@ -83,7 +83,7 @@ trip-has-reason r w out d c tripped =
     let told = demand-2 r w out d c .0 in
     ⊎-elim
     (λ any. let p = which r w any in let set = bit-set r w out d c (p .0) (p .1) (p .2) in inl (p .0, p .1, set, demand-3-first r w out d (p .0) (p .1) c set))
-    (λ ahead. inr (told .forward .1 (ahead .0), λ none. none-told 0 (loopFacts r w) (subst (λ n. BitsTell n 0 (loopFacts r w)) none (told .loop-bits)) (ahead .1)))
+    (λ ahead. inr (told .forward .1 (ahead .0), λ none. none-told 0 (loopFacts r w (reach r)) (subst (λ n. BitsTell n 0 (loopFacts r w (reach r))) none (told .loop-bits)) (ahead .1)))
     (told .trip .0 tripped)
 
 -- ---- the two windows

@@ -11,6 +11,7 @@ pub mod Settings
 pub mod Feeding
 pub mod Decisions
 pub mod Demand2
+pub mod SecondZone
 pub mod Demand3
 pub mod WhichRule
 pub mod HandChecks

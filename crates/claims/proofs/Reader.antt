@@ -8,6 +8,7 @@ use Rattle.claims.proofs.Unmoved as unmoved
 use Rattle.claims.proofs.Feeding as feeding
 use Rattle.claims.proofs.Demand1 as demand-1
 use Rattle.claims.proofs.Demand2 as demand-2
+use Rattle.claims.proofs.SecondZone as second-zone
 use Rattle.claims.proofs.Demand3 as demand-3
 use Rattle.claims.proofs.WhichRule as which-rule
 use Rattle.claims.proofs.Settings as settings
@@ -57,6 +58,9 @@ gorsepetal = record {
   entries-leave-window = unmoved.entries-leave-window;
   window-does-not-matter = unmoved.window-does-not-matter;
   demand-2 = demand-2.demand-2;
+  second-zone-has-first = second-zone.second-zone-has-first;
+  other-bytes-stay = second-zone.other-bytes-stay;
+  records-from-before = second-zone.records-from-before;
   demand-3-first = demand-3.demand-3-first;
   demand-3-second = demand-3.demand-3-second;
   trip-has-reason = demand-3.trip-has-reason;

@@ -1,4 +1,4 @@
--- Demand 2 (document 01, "Decision record"): every quantity in a decision equals its definition. In all definitions s is the
+-- Demand 2 (document 01, "Decision record"; document 02, CR 2, "All demands cover both zones"): every quantity in a decision equals its definition. In all definitions s is the
 -- settings record in force, w the window's numbers, d what the buffer holds after the call, and phases a, b, c are 0, 1, 2.
 use Prim.Native.Nat.{ℕ, _+_, _*_, _<_}
 use mathlib.Core.Path.{_≡_}
@@ -11,12 +11,12 @@ use Rattle.whole.specs.Root.{floorRoot}
 use Rattle.claims.specs.Bits.{BitsTell, AnyOf}
 use Rattle.plane.specs.declared.Phasor.{Phasor}
 use Rattle.phasors.specs.Grid.{current}
-use Rattle.settings.specs.Fields.{ends, slope, pickup, reach}
+use Rattle.settings.specs.Fields.{ends, slope, pickup, reach, secondReach}
 use Rattle.distance.specs.Sequence.{negativeSequence}
 use Rattle.distance.specs.Constants.{replica, compensation}
 use Rattle.distance.specs.declared.mho.Loop.{Loop}
 use Rattle.distance.specs.declared.mho.SixLoops.{SixLoops}
-use Rattle.distance.specs.Mho.{loopsOf}
+use Rattle.distance.specs.Mho.{loopsOf, ratioOf}
 use Rattle.distance.specs.Laws.{WithinReach, PickupReached, BelowForward, AboveReverse}
 use Rattle.differential.specs.Differential.{square, restraint, comparison}
 use Rattle.differential.specs.Laws.{OperatesBy}
@@ -43,18 +43,18 @@ Operates s w p = OperatesBy (slope s) (pickup s) (comparison (phaseCurrents s w 
 abbrev pub phaseFacts : List ℕ → List ℤ → List (Type 0)
 phaseFacts s w = Operates s w 0 ∷ Operates s w 1 ∷ Operates s w 2 ∷ []
 
--- "the loop asserts exactly when m > 0 and 1000000 n <= r m"
-abbrev pub Asserts : List ℕ → Loop → Type 0
-Asserts s l = WithinReach (replica s) (pos (reach s)) l
+-- "the loop asserts exactly when m > 0 and 1000000 n <= r m", at the reach r
+abbrev pub Asserts : List ℕ → ℕ → Loop → Type 0
+Asserts s r l = WithinReach (pos r) (ratioOf (replica s) l)
 
 abbrev pub sixLoops : List ℕ → List ℤ → SixLoops
 sixLoops s w = loopsOf (compensation s) (voltages s w) (currentsOfEnd1 s w)
 
--- AG, BG, CG, AB, BC, CA
-abbrev pub loopFacts : List ℕ → List ℤ → List (Type 0)
-loopFacts s w =
-    Asserts s (sixLoops s w .ag) ∷ Asserts s (sixLoops s w .bg) ∷ Asserts s (sixLoops s w .cg)
-    ∷ Asserts s (sixLoops s w .ab) ∷ Asserts s (sixLoops s w .bc) ∷ Asserts s (sixLoops s w .ca) ∷ []
+-- AG, BG, CG, AB, BC, CA, at the reach r
+abbrev pub loopFacts : List ℕ → List ℤ → ℕ → List (Type 0)
+loopFacts s w r =
+    Asserts s r (sixLoops s w .ag) ∷ Asserts s r (sixLoops s w .bg) ∷ Asserts s r (sixLoops s w .cg)
+    ∷ Asserts s r (sixLoops s w .ab) ∷ Asserts s r (sixLoops s w .bc) ∷ Asserts s r (sixLoops s w .ca) ∷ []
 
 -- "forward if T < zf |3I2|²", where 3I2 reaches its pickup
 abbrev pub DirectionForward : List ℕ → List ℤ → Type 0
@@ -64,9 +64,9 @@ DirectionForward s w = PickupReached s (negativeSequence (currentsOfEnd1 s w)) �
 abbrev pub DirectionReverse : List ℕ → List ℤ → Type 0
 DirectionReverse s w = PickupReached s (negativeSequence (currentsOfEnd1 s w)) × AboveReverse s (negativeSequence (voltages s w)) (negativeSequence (currentsOfEnd1 s w))
 
--- "any phase operates, or direction is forward and any loop asserts"
+-- "any phase operates, or direction is forward and any loop asserts", at the first reach: the second zone "does not trip"
 abbrev pub Trips : List ℕ → List ℤ → Type 0
-Trips s w = AnyOf (phaseFacts s w) ⊎ (DirectionForward s w × AnyOf (loopFacts s w))
+Trips s w = AnyOf (phaseFacts s w) ⊎ (DirectionForward s w × AnyOf (loopFacts s w (reach s)))
 
 -- ---- and what the bytes of a decision tell of it
 
@@ -85,14 +85,18 @@ pub record Tells (s : List ℕ) (w : List ℤ) (d : List ℕ) : Type 0 where
   pub phase-bits : BitsTell (byte d 1) 0 (phaseFacts s w)
   pub three-bits : byte d 1 < 8
   -- byte 2: "loops AG 1, BG 2, CG 4, AB 8, BC 16, CA 32"
-  pub loop-bits : BitsTell (byte d 2) 0 (loopFacts s w)
+  pub loop-bits : BitsTell (byte d 2) 0 (loopFacts s w (reach s))
   pub six-bits : byte d 2 < 64
   -- byte 3: "0 none, 1 forward, 2 reverse"
   pub forward : Exactly (byte d 3 ≡ 1) (DirectionForward s w)
   pub reverse : Exactly (byte d 3 ≡ 2) (DirectionReverse s w)
   pub none : Exactly (byte d 3 ≡ 0) ((DirectionForward s w → ⊥) × (DirectionReverse s w → ⊥))
-  -- "4 to 7 zero"
-  pub zero-bytes : (byte d 4 ≡ 0) × (byte d 5 ≡ 0) × (byte d 6 ≡ 0) × (byte d 7 ≡ 0)
+  -- byte 4: the same loops at the second reach, and 0 where that is off (document 02, CR 2)
+  pub second-zone-bits : (secondReach s ≡ 0 → ⊥) → BitsTell (byte d 4) 0 (loopFacts s w (secondReach s))
+  pub second-six-bits : byte d 4 < 64
+  pub second-zone-off : secondReach s ≡ 0 → byte d 4 ≡ 0
+  -- 5 to 7 zero
+  pub zero-bytes : (byte d 5 ≡ 0) × (byte d 6 ≡ 0) × (byte d 7 ≡ 0)
   -- 8 to 19: "U of a, b, c"
   pub restraints : (p : ℕ) → p < 3 → wordAt d (8 + 4 * p) ≡ restraintOf s w p
   -- 20 to 31: "floor of the root of 4096 s, for a, b, c"

@@ -23,7 +23,7 @@ use Rattle.distance.specs.declared.mho.Loop.{Loop}
 use Rattle.distance.specs.Sequence.{negativeSequence}
 use Rattle.distance.specs.Constants.{angle}
 use Rattle.distance.specs.Direction.{reachesPickup, directionOf}
-use Rattle.distance.specs.Mho.{asserts}
+use Rattle.distance.specs.Mho.{ratioOf, asserts}
 use Rattle.decision.specs.Decision.{rateOf}
 use Rattle.differential.specs.Differential.{restraint, comparison, operates}
 
@@ -80,8 +80,8 @@ Holds (phasor-is x p) = phasorOf (rateOf exampleRecord) x ≡ phasor p
 Holds (negative-sequence-is ia ib ic i2) = negativeSequence (record { a = phasor ia; b = phasor ib; c = phasor ic }) ≡ phasor i2
 Holds (phase-operates ends K pickup b) = operates K pickup (comparison (endPhasor ends) (length ends)) ≡ b
 Holds (restraint-is ends U) = restraint (endPhasor ends) (length ends) ≡ U
-Holds (loop-asserts v vp z i r b) = asserts (phasor z) r (loop v vp i) ≡ b
-Holds (loop-never v vp z i) = (r : ℤ) → asserts (phasor z) r (loop v vp i) ≡ false
+Holds (loop-asserts v vp z i r b) = asserts r (ratioOf (phasor z) (loop v vp i)) ≡ b
+Holds (loop-never v vp z i) = (r : ℤ) → asserts r (ratioOf (phasor z) (loop v vp i)) ≡ false
 Holds (direction-is d zf i2 v2 side) =
     (directionOf (withLimit zf) (phasor v2) (phasor i2) ≡ side) × (checked (withLimit zf) ≡ Good)
     × (angle (withLimit zf) ≡ phasor d) × (forwardLimit (withLimit zf) ≡ zf)

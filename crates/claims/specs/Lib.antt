@@ -9,6 +9,7 @@ pub mod Feeding
 pub mod Bits
 pub mod Decisions
 pub mod Demand2
+pub mod SecondZone
 pub mod Demand3
 pub mod WhichRule
 pub mod HandChecks

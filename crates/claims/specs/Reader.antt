@@ -17,6 +17,7 @@ use Rattle.claims.specs.Frames.{KeptExactly, ElseNothingKept, FedAsDecid
 use Rattle.claims.specs.Unmoved.{FeedLeavesSettings, EntriesLeaveWindow, WindowDoesNotMatter}
 use Rattle.claims.specs.Feeding.{FirmwareHears, HearsOverHistories, PlaceFalls}
 use Rattle.claims.specs.Demand2.{Demand2}
+use Rattle.claims.specs.SecondZone.{SecondZoneHasFirst, OtherBytesStay, RecordsFromBefore}
 use Rattle.claims.specs.Demand3.{Demand3First, Demand3Second, TripHasReason, FaultTrips, ThroughDoesNot, ThroughIsQuiet}
 use Rattle.claims.specs.WhichRule.{WhichRule, WhichRuleOverHistories, WhichRuleByFeeding, WhichRecord, WhichRecordOverHistories, SaidTwiceReadsBack, SaidTwiceDecides, SaidTwiceDecidesByFeeding}
 use Rattle.claims.specs.HandChecks.{HandChecks}
@@ -64,6 +65,10 @@ pub record Gorsepetal : Type 0 where
   pub window-does-not-matter : WindowDoesNotMatter
   -- demand 2: every quantity equals its definition
   pub demand-2 : Demand2
+  -- the second zone, and what it does not move
+  pub second-zone-has-first : SecondZoneHasFirst
+  pub other-bytes-stay : OtherBytesStay
+  pub records-from-before : RecordsFromBefore
   -- demand 3: how far rounding can move the decision
   pub demand-3-first : Demand3First
   pub demand-3-second : Demand3Second

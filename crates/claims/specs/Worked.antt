@@ -1,13 +1,13 @@
--- Whole decisions, from the samples to bytes 0 to 3: the paper mill's fault at both slopes, a fault on each of the six loops, and one behind
--- the relay. In each of the others what flows in at end 1 flows out at end 2. docs/HAND-CHECKS.md works the first and the AG faults out; the
--- other loops' faults are the same ones turned by a third.
+-- Whole decisions, from the samples to bytes 0 to 4: the paper mill's fault at both slopes, a fault on each of the six loops, one behind the
+-- relay, and one beyond the first zone. In each of the others what flows in at end 1 flows out at end 2. docs/HAND-CHECKS.md works the first and the
+-- AG faults out; the other loops' faults are the same ones turned by a third.
 use Prim.Native.Nat.{ℕ}
 use mathlib.Core.Path.{_≡_}
 use mathlib.Core.List.{List, [], _∷_, _++_, map}
 use lib.IntN.{ℤ, pos, _*ℤ_}
 use lib.ListN.{take, replicate}
 use Rattle.settings.specs.Record.{negated}
-use Rattle.settings.specs.Table.{offsetOf, slopeRow, pickupRow}
+use Rattle.settings.specs.Table.{offsetOf, slopeRow, pickupRow, secondReachRow}
 use Rattle.settings.specs.Examples.{exampleRecord, changed}
 use Rattle.decision.specs.Decision.{decision}
 use Rattle.claims.specs.HandChecks.{Complex}
@@ -21,7 +21,7 @@ pub record Worked : Type 0 where
   pub settings : List ℕ
   -- Va, Vb, Vc, then Ia, Ib, Ic of end 1 and of end 2
   pub phasors : List Complex
-  -- trip, phases, loops, direction
+  -- trip, phases, loops, direction, and the loops in the second zone
   pub bytes : List ℕ
 
 abbrev pub none : Complex
@@ -41,23 +41,37 @@ abbrev pub through : List Complex → List Complex → List ℕ → Worked
 through v i bytes =
     record { settings = exampleRecord; phasors = v ++ i ++ map (λ p. (negated 1 *ℤ p .0, negated 1 *ℤ p .1)) i; bytes = bytes }
 
+-- AG ahead, and farther away than the first reach, with a second reach
+abbrev pub farther : ℕ → List ℕ → Worked
+farther r bytes =
+    record {
+      settings = changed exampleRecord (offsetOf secondReachRow) r;
+      phasors = (pos 1600, pos 0) ∷ (negated 1000, negated 1732) ∷ (negated 1000, pos 1732) ∷ (pos 0, negated 1000) ∷ none ∷ none ∷ (pos 0, pos 1000) ∷ none ∷ none ∷ [];
+      bytes = bytes;
+    }
+
 abbrev pub worked : List Worked
 worked =
     -- the paper mill: slope 15, and 50
-    mill 15 (1 ∷ 1 ∷ 0 ∷ 0 ∷ [])
-    ∷ mill 50 (0 ∷ 0 ∷ 0 ∷ 0 ∷ [])
+    mill 15 (1 ∷ 1 ∷ 0 ∷ 0 ∷ 0 ∷ [])
+    ∷ mill 50 (0 ∷ 0 ∷ 0 ∷ 0 ∷ 0 ∷ [])
     -- AG, ahead and behind
-    ∷ through ((pos 1000, pos 0) ∷ (negated 1000, negated 1732) ∷ (negated 1000, pos 1732) ∷ []) ((pos 0, negated 1000) ∷ none ∷ none ∷ []) (1 ∷ 0 ∷ 1 ∷ 1 ∷ [])
-    ∷ through ((pos 1000, pos 0) ∷ (negated 1000, negated 1732) ∷ (negated 1000, pos 1732) ∷ []) ((pos 0, pos 1000) ∷ none ∷ none ∷ []) (0 ∷ 0 ∷ 0 ∷ 2 ∷ [])
+    ∷ through ((pos 1000, pos 0) ∷ (negated 1000, negated 1732) ∷ (negated 1000, pos 1732) ∷ []) ((pos 0, negated 1000) ∷ none ∷ none ∷ []) (1 ∷ 0 ∷ 1 ∷ 1 ∷ 0 ∷ [])
+    ∷ through ((pos 1000, pos 0) ∷ (negated 1000, negated 1732) ∷ (negated 1000, pos 1732) ∷ []) ((pos 0, pos 1000) ∷ none ∷ none ∷ []) (0 ∷ 0 ∷ 0 ∷ 2 ∷ 0 ∷ [])
     -- BG and CG
-    ∷ through ((pos 2000, pos 0) ∷ (negated 500, negated 866) ∷ (negated 1000, pos 1732) ∷ []) (none ∷ (negated 866, pos 500) ∷ none ∷ []) (1 ∷ 0 ∷ 2 ∷ 1 ∷ [])
-    ∷ through ((pos 2000, pos 0) ∷ (negated 1000, negated 1732) ∷ (negated 500, pos 866) ∷ []) (none ∷ none ∷ (pos 866, pos 500) ∷ []) (1 ∷ 0 ∷ 4 ∷ 1 ∷ [])
+    ∷ through ((pos 2000, pos 0) ∷ (negated 500, negated 866) ∷ (negated 1000, pos 1732) ∷ []) (none ∷ (negated 866, pos 500) ∷ none ∷ []) (1 ∷ 0 ∷ 2 ∷ 1 ∷ 0 ∷ [])
+    ∷ through ((pos 2000, pos 0) ∷ (negated 1000, negated 1732) ∷ (negated 500, pos 866) ∷ []) (none ∷ none ∷ (pos 866, pos 500) ∷ []) (1 ∷ 0 ∷ 4 ∷ 1 ∷ 0 ∷ [])
     -- AB, BC and CA
-    ∷ through ((pos 760, negated 716) ∷ (pos 240, negated 1016) ∷ (negated 1000, pos 1732) ∷ []) ((pos 250, negated 433) ∷ (negated 250, pos 433) ∷ none ∷ []) (1 ∷ 0 ∷ 8 ∷ 1 ∷ [])
-    ∷ through ((pos 2000, pos 0) ∷ (negated 1000, negated 300) ∷ (negated 1000, pos 300) ∷ []) (none ∷ (negated 500, pos 0) ∷ (pos 500, pos 0) ∷ []) (1 ∷ 0 ∷ 16 ∷ 1 ∷ [])
-    ∷ through ((pos 760, pos 716) ∷ (negated 1000, negated 1732) ∷ (pos 240, pos 1016) ∷ []) ((negated 250, negated 433) ∷ none ∷ (pos 250, pos 433) ∷ []) (1 ∷ 0 ∷ 32 ∷ 1 ∷ [])
+    ∷ through ((pos 760, negated 716) ∷ (pos 240, negated 1016) ∷ (negated 1000, pos 1732) ∷ []) ((pos 250, negated 433) ∷ (negated 250, pos 433) ∷ none ∷ []) (1 ∷ 0 ∷ 8 ∷ 1 ∷ 0 ∷ [])
+    ∷ through ((pos 2000, pos 0) ∷ (negated 1000, negated 300) ∷ (negated 1000, pos 300) ∷ []) (none ∷ (negated 500, pos 0) ∷ (pos 500, pos 0) ∷ []) (1 ∷ 0 ∷ 16 ∷ 1 ∷ 0 ∷ [])
+    ∷ through ((pos 760, pos 716) ∷ (negated 1000, negated 1732) ∷ (pos 240, pos 1016) ∷ []) ((negated 250, negated 433) ∷ none ∷ (pos 250, pos 433) ∷ []) (1 ∷ 0 ∷ 32 ∷ 1 ∷ 0 ∷ [])
+    -- the second zone off, one short of the fault, at it, and at its limit: forward, and no trip
+    ∷ farther 0 (0 ∷ 0 ∷ 0 ∷ 1 ∷ 0 ∷ [])
+    ∷ farther 959 (0 ∷ 0 ∷ 0 ∷ 1 ∷ 0 ∷ [])
+    ∷ farther 960 (0 ∷ 0 ∷ 0 ∷ 1 ∷ 1 ∷ [])
+    ∷ farther 2000 (0 ∷ 0 ∷ 0 ∷ 1 ∷ 1 ∷ [])
     ∷ []
 
 -- One claim over all of them.
 abbrev pub WorkedDecisions : Type 0
-WorkedDecisions = map (λ x. take 4 (decision (x .settings) (windowOf (x .phasors)))) worked ≡ map (λ x. x .bytes) worked
+WorkedDecisions = map (λ x. take 5 (decision (x .settings) (windowOf (x .phasors)))) worked ≡ map (λ x. x .bytes) worked

@@ -8,13 +8,14 @@ use lib.IntN.{ℤ, pos}
 use Rattle.plane.specs.declared.Phases.{Phases}
 use Rattle.phasors.specs.Rate.{Rate, sixteen}
 use Rattle.phasors.specs.Grid.{voltagesOf, localCurrents, current}
-use Rattle.settings.specs.Fields.{ends, slope, pickup, reach}
+use Rattle.settings.specs.Fields.{ends, slope, pickup, reach, secondReach}
 use Rattle.distance.specs.declared.direction.Direction.{Direction}
 use Rattle.distance.specs.declared.direction.Direction.the-variants.{None, Forward, Reverse}
 use Rattle.distance.specs.Sequence.{negativeSequence}
 use Rattle.distance.specs.Constants.{replica, compensation}
 use Rattle.distance.specs.Direction.{directionOf, directionNumber}
-use Rattle.distance.specs.Mho.{loopsOf, loopBits}
+use Rattle.distance.specs.declared.mho.SixRatios.{SixRatios}
+use Rattle.distance.specs.Mho.{loopsOf, ratiosOf, loopBits}
 use Rattle.differential.specs.declared.Comparisons.{Comparisons}
 use Rattle.differential.specs.Differential.{comparisons, magnitude, operatingBits}
 use Rattle.decision.specs.declared.Findings.{Findings}
@@ -37,9 +38,17 @@ currentsOfEnd1 s w = localCurrents (rateOf s) w (ends s)
 abbrev pub comparisonsOf : List ℕ → List ℤ → Comparisons
 comparisonsOf s w = comparisons (current (rateOf s) w (ends s)) (ends s)
 
--- the loops that assert, from the voltages and the currents of end 1, at the reach r
-abbrev pub assertingBits : List ℕ → Phases → Phases → ℕ
-assertingBits s v i = loopBits (replica s) (pos (reach s)) (loopsOf (compensation s) v i)
+-- n and m of the six loops, from the voltages and the currents of end 1
+abbrev pub ratiosAt : List ℕ → Phases → Phases → SixRatios
+ratiosAt s v i = ratiosOf (replica s) (loopsOf (compensation s) v i)
+
+-- the loops that assert at the reach r
+abbrev pub assertingBits : List ℕ → SixRatios → ℕ
+assertingBits s q = loopBits (pos (reach s)) q
+
+-- and at the second reach: none where it is off (document 02, CR 2)
+abbrev pub overreachingBits : List ℕ → SixRatios → ℕ
+overreachingBits s q = cond (eqb (secondReach s) 0) 0 (loopBits (pos (secondReach s)) q)
 
 -- the direction, from 3V2 and 3I2
 abbrev pub directionAt : List ℕ → Phases → Phases → Direction
@@ -49,7 +58,8 @@ unfoldable pub findings : List ℕ → List ℤ → Findings
 findings s w =
     record {
       operating = operatingBits (slope s) (pickup s) (comparisonsOf s w);
-      asserting = assertingBits s (voltages s w) (currentsOfEnd1 s w);
+      asserting = assertingBits s (ratiosAt s (voltages s w) (currentsOfEnd1 s w));
+      overreaching = overreachingBits s (ratiosAt s (voltages s w) (currentsOfEnd1 s w));
       direction = directionAt s (voltages s w) (currentsOfEnd1 s w);
       comparisons = comparisonsOf s w;
     }
@@ -65,7 +75,7 @@ isForward None = false
 isForward Forward = true
 isForward Reverse = false
 
--- "1 if any phase operates, or direction is forward and any loop asserts; else 0"
+-- "1 if any phase operates, or direction is forward and any loop asserts; else 0". The second zone "does not trip".
 abbrev pub trip : ℕ → ℕ → Direction → ℕ
 trip operating asserting direction = cond (any operating || (isForward direction && any asserting)) 1 0
 
@@ -79,10 +89,11 @@ decisionLength = 32
 abbrev pub word : ℕ → List ℕ
 word n = n / 16777216 ∷ n / 65536 % 256 ∷ n / 256 % 256 ∷ n % 256 ∷ []
 
--- bytes 0 to 3, "4 to 7 zero", "U of a, b, c", and "floor of the root of 4096 s, for a, b, c"
+-- bytes 0 to 3, byte 4 (document 02, CR 2: "Decision byte 4 becomes its six loop bits"), 5 to 7 zero, "U of a, b, c", and "floor of the root of 4096 s, for a, b, c"
 abbrev pub decisionBytes : Findings → List ℕ
 decisionBytes f =
-    trip (f .operating) (f .asserting) (f .direction) ∷ f .operating ∷ f .asserting ∷ directionNumber (f .direction) ∷ 0 ∷ 0 ∷ 0 ∷ 0
+    trip (f .operating) (f .asserting) (f .direction) ∷ f .operating ∷ f .asserting ∷ directionNumber (f .direction)
+    ∷ f .overreaching ∷ 0 ∷ 0 ∷ 0
     ∷ word (f .comparisons .a .restraint) ++ word (f .comparisons .b .restraint) ++ word (f .comparisons .c .restraint)
     ++ word (magnitude (f .comparisons .a)) ++ word (magnitude (f .comparisons .b)) ++ word (magnitude (f .comparisons .c))
 

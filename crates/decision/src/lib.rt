@@ -7,12 +7,14 @@ ghost use Rattle.lent.specs.Lent.{over};
 ghost use Rattle.plane.specs.Sizes.{AllInside, phasorSize};
 ghost use Rattle.samples.specs.Window.{windowLength, firstMissing};
 ghost use Rattle.settings.specs.Fields.{Ranges, ends};
+ghost use Rattle.distance.specs.Sizes.{RatiosInside};
 ghost use Rattle.differential.specs.Sizes.{AllSized};
 ghost use Rattle.decision.specs.Decide.{Decided};
-ghost use Rattle.decision.specs.Decision.{assertingBits, directionAt, findings, trip, word, decisionBytes, decision};
+ghost use Rattle.decision.specs.Decision.{ratiosAt, assertingBits, overreachingBits, directionAt, findings, trip, word, decisionBytes, decision};
 use answers::Answer;
 use differential::Comparisons;
 use distance::direction::Direction;
+use distance::mho::SixRatios;
 use plane::Phases;
 use samples::Found;
 
@@ -30,6 +32,8 @@ pub struct Findings {
     pub operating: u8,
     // the loops that assert: AG 1, BG 2, CG 4, AB 8, BC 16, CA 32
     pub asserting: u8,
+    // the loops that assert at the second reach, in the same order; 0 where it is off (document 02, CR 2)
+    pub overreaching: u8,
     // which way the fault lies
     pub direction: Direction,
     // what is compared in each phase
@@ -44,13 +48,33 @@ pub fn window_length(s: &[u8]) -> usize
     samples::FRAMES * samples::channels(settings::fields::ends(s) as usize)
 }
 
-// The loops that assert at the reach in force, from the voltages and the currents of end 1.
-fn asserting_bits(s: &[u8], v: Phases, i: Phases) -> u8
+// n and m of the six loops, from the voltages and the currents of end 1.
+fn ratios_at(s: &[u8], v: Phases, i: Phases) -> SixRatios
     requires { ⌜ Ranges (now s) × AllInside phasorSize v × AllInside phasorSize i ⌝ }
-    ensures { λ r. ⌜ r ≡ assertingBits (now (s .entry)) v i ⌝ }
+    ensures { λ q. ⌜ (q ≡ ratiosAt (now (s .entry)) v i) × RatiosInside q ⌝ }
 {
-    let reach = settings::fields::reach(s);
-    distance::mho::loop_bits(s, reach, distance::mho::loops(s, v, i))
+    distance::mho::ratios_of(s, distance::mho::loops(s, v, i))
+}
+
+// The loops that assert at the reach in force.
+fn asserting_bits(s: &[u8], q: SixRatios) -> u8
+    requires { ⌜ Ranges (now s) × RatiosInside q ⌝ }
+    ensures { λ r. ⌜ r ≡ assertingBits (now (s .entry)) q ⌝ }
+{
+    distance::mho::loop_bits(settings::fields::reach(s), q)
+}
+
+// And at the second reach: none where it is off.
+fn overreaching_bits(s: &[u8], q: SixRatios) -> u8
+    requires { ⌜ Ranges (now s) × RatiosInside q ⌝ }
+    ensures { λ r. ⌜ r ≡ overreachingBits (now (s .entry)) q ⌝ }
+{
+    let reach = settings::fields::second_reach(s);
+    if reach == 0 {
+        0
+    } else {
+        distance::mho::loop_bits(reach, q)
+    }
 }
 
 // The direction of a fault, from the same.
@@ -74,11 +98,14 @@ fn findings_in(s: &[u8], window: &[i16]) -> Findings
     let i = phasors::local(grid);
     let comparisons = differential::of_phases(grid, ends);
     let operating = differential::operating_bits(s, comparisons);
-    let asserting = asserting_bits(s, v, i);
+    let q = ratios_at(s, v, i);
+    let asserting = asserting_bits(s, q);
+    let overreaching = overreaching_bits(s, q);
     let direction = direction(s, v, i);
     Findings {
         operating,
         asserting,
+        overreaching,
         direction,
         comparisons,
     }
@@ -111,15 +138,16 @@ fn word(n: u64) -> [u8; 4]
     ]
 }
 
-// A decision record with its first four bytes, and zeros.
-fn front(trip: u8, operating: u8, asserting: u8, direction: u8) -> [u8; LENGTH]
-    ensures { λ r. ⌜ r ≡ trip ∷ operating ∷ asserting ∷ direction ∷ replicate 28 0 ⌝ }
+// A decision record with its first five bytes, and zeros.
+fn front(trip: u8, operating: u8, asserting: u8, direction: u8, overreaching: u8) -> [u8; LENGTH]
+    ensures { λ r. ⌜ r ≡ trip ∷ operating ∷ asserting ∷ direction ∷ overreaching ∷ replicate 27 0 ⌝ }
 {
     let mut r = [0u8; LENGTH];
     r[0] = trip;
     r[1] = operating;
     r[2] = asserting;
     r[3] = direction;
+    r[4] = overreaching;
     r
 }
 
@@ -146,6 +174,7 @@ fn bytes(f: Findings) -> [u8; LENGTH]
         f.operating,
         f.asserting,
         distance::direction::number(direction),
+        f.overreaching,
     );
     let r = with_word(r, 8, comparisons.a.restraint);
     let r = with_word(r, 12, comparisons.b.restraint);

@@ -21,7 +21,7 @@ use Rattle.distance.specs.declared.direction.Direction.the-variants.{Non
 use Rattle.distance.specs.Sequence.{a, a², scale, sequence, turned}
 use Rattle.distance.specs.Constants.{angle}
 use Rattle.distance.specs.Direction.{reachesPickup, torque, sideOf, directionOf, directionNumber}
-use Rattle.distance.specs.Mho.{numerator, denominator, mho, asserts, residual, kProduct, groundLoop, phaseLoop, loopsOf, loopBits}
+use Rattle.distance.specs.Mho.{mho, asserts, residual, kProduct, groundLoop, phaseLoop, loopsOf, loopBits}
 use Rattle.distance.specs.Laws.{MhoRule, LargerReach, NoPolarising, NoPositive, NeverBoth, ForwardRule, ReverseRule}
 
 -- ---- the mho rule
@@ -37,14 +37,14 @@ mho-means r n m = (by-sign (ltZ (pos 0) m) refl, λ h. rw (true-lt (h .0)) (true
 
 pub mho-rule : MhoRule
 unfolding asserts
-mho-rule z r l = mho-means r (numerator l) (denominator z l)
+mho-rule r q = mho-means r (q .n) (q .m)
 
 pub larger-reach : LargerReach
-larger-reach z q r l h e =
-    let reached = mho-rule z q l .0 e in
-    let m = denominator z l in
-    let further : (q *ℤ m) ≤ℤ (r *ℤ m) = le! (q ∷ r ∷ m ∷ []) (g-le h ⊠ (g-lt (reached .0) ⊞ g-num 1)) (search quo depth 40) tt in
-    mho-rule z r l .1 (reached .0, ≤-trans (reached .1) further)
+larger-reach r r₂ q h e =
+    let reached = mho-rule r q .0 e in
+    let m = q .m in
+    let further : (r *ℤ m) ≤ℤ (r₂ *ℤ m) = le! (r ∷ r₂ ∷ m ∷ []) (g-le h ⊠ (g-lt (reached .0) ⊞ g-num 1)) (search quo depth 40) tt in
+    mho-rule r₂ q .1 (reached .0, ≤-trans (reached .1) further)
 
 pub no-polarising : NoPolarising
 unfolding asserts mho

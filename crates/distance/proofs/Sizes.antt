@@ -1,7 +1,9 @@
 -- How large each quantity of distance is, from the ranges of a good settings record and of phasors within 42000 of zero. So nothing exceeds
 -- 64 bits: a reach of 2000 times m, the largest of all, stays below 9007199254740992000.
 use Prim.Native.Nat.{ℕ}
+use mathlib.Core.Logic.{⊎-elim}
 use mathlib.Core.List.{List}
+use native.Mathlib.Omega.{arith}
 use lib.IntN.{ℤ, pos}
 use Rattle.whole.specs.Sizes.{Within}
 use Rattle.whole.proofs.Size.{lit, wider, abs-of}
@@ -11,7 +13,7 @@ use Rattle.plane.specs.Sizes.{Inside, AllInside, phasorSize}
 use Rattle.plane.proofs.Bounds.{inside-plus, inside-factor, inside-scaled, inside-rounded, inside-wider}
 use Rattle.settings.specs.Record.{negated}
 use Rattle.settings.specs.Table.{mostCounts, mostReplica, mostReach, mostAngle, mostLimit}
-use Rattle.settings.specs.Fields.{From, FromSigned, Ranges, reach, forwardLimit, reverseLimit, negativeSequencePickup}
+use Rattle.settings.specs.Fields.{From, FromSigned, Ranges, reach, forwardLimit, reverseLimit, negativeSequencePickup, secondReach}
 use Rattle.distance.specs.Sequence.{scale, turned, sequence}
 use Rattle.distance.specs.Sizes.{Turn, sequenceSize, polarisingSize, Compensates, residualSize, kProductSize}
 use Rattle.distance.specs.Constants.{replica, compensation, angle}
@@ -46,6 +48,9 @@ module _ {s : List ℕ} (h : Ranges s) where
 
   pub reach-within : Within mostReach (pos (reach s))
   reach-within = from (h .reach-range)
+
+  pub second-reach-within : Within mostReach (pos (secondReach s))
+  second-reach-within = ⊎-elim (λ z. record { size = omega (arith, z) }) (λ f. from f) (h .secondReach-range)
 
 -- ---- the quantities
 

@@ -15,29 +15,30 @@ use Rattle.distance.specs.Sequence.{positiveSequence}
 use Rattle.distance.specs.Constants.{angle}
 use Rattle.distance.specs.Direction.{torque, directionOf}
 use Rattle.distance.specs.declared.mho.Loop.{Loop}
-use Rattle.distance.specs.Mho.{loopsOf, numerator, denominator, asserts, loopBits}
+use Rattle.distance.specs.declared.mho.Ratio.{Ratio}
+use Rattle.distance.specs.Mho.{loopsOf, ratioOf, ratiosOf, asserts, loopBits}
 
 -- ---- the mho rule
 
 -- The denominator is positive and the reach, n over m, is at most the setting: "m > 0 and 1000000 n <= r m"
-abbrev pub WithinReach : Phasor → ℤ → Loop → Type 0
-WithinReach z r l = (pos 0 <ℤ denominator z l) × ((pos 1000000 *ℤ numerator l) ≤ℤ (r *ℤ denominator z l))
+abbrev pub WithinReach : ℤ → Ratio → Type 0
+WithinReach r q = (pos 0 <ℤ q .m) × ((pos 1000000 *ℤ q .n) ≤ℤ (r *ℤ q .m))
 
--- Demand 2 of a loop
+-- Demand 2 of a loop, at any reach
 abbrev pub MhoRule : Type 0
-MhoRule = (z : Phasor) (r : ℤ) (l : Loop) → Exactly (asserts z r l ≡ true) (WithinReach z r l)
+MhoRule = (r : ℤ) (q : Ratio) → Exactly (asserts r q ≡ true) (WithinReach r q)
 
 -- A loop that asserts at a reach asserts at every larger one.
 abbrev pub LargerReach : Type 0
-LargerReach = (z : Phasor) (q r : ℤ) (l : Loop) → q ≤ℤ r → asserts z q l ≡ true → asserts z r l ≡ true
+LargerReach = (r r₂ : ℤ) (q : Ratio) → r ≤ℤ r₂ → asserts r q ≡ true → asserts r₂ q ≡ true
 
 -- "Vp=0: no loop asserts."
 abbrev pub NoPolarising : Type 0
-NoPolarising = (z : Phasor) (r : ℤ) (l : Loop) → l .vp ≡ plane.zero → asserts z r l ≡ false
+NoPolarising = (z : Phasor) (r : ℤ) (l : Loop) → l .vp ≡ plane.zero → asserts r (ratioOf z l) ≡ false
 
 -- Nor does one of the six where 3V1 = 0.
 abbrev pub NoPositive : Type 0
-NoPositive = (z k : Phasor) (r : ℤ) (v i : Phases) → positiveSequence v ≡ plane.zero → loopBits z r (loopsOf k v i) ≡ 0
+NoPositive = (z k : Phasor) (r : ℤ) (v i : Phases) → positiveSequence v ≡ plane.zero → loopBits r (ratiosOf z (loopsOf k v i)) ≡ 0
 
 -- ---- direction
 

@@ -1,4 +1,4 @@
--- Document 01, "Mho loops" (source document 002, Equation 1): the six loops, and when one asserts.
+-- Document 01, "Mho loops" (source document 002, Equation 1): the six loops, n and m of each, and when one asserts at a reach.
 use mathlib.Core.List.{[], _∷_}
 use mathlib.Core.Bool.{Bool, false, cond}
 use Prim.Native.Nat.{ℕ}
@@ -10,6 +10,8 @@ use Rattle.plane.specs.declared.Phases.{Phases}
 use Rattle.plane.specs.Plane.{plus, minus, times, rounded, minusJ, dot}
 use Rattle.distance.specs.declared.mho.Loop.{Loop}
 use Rattle.distance.specs.declared.mho.SixLoops.{SixLoops}
+use Rattle.distance.specs.declared.mho.Ratio.{Ratio}
+use Rattle.distance.specs.declared.mho.SixRatios.{SixRatios}
 use Rattle.distance.specs.Sequence.{a, a², turned, positiveSequence}
 
 -- ---- the loops
@@ -47,25 +49,28 @@ sixOf v i k p ap a²p =
 unfoldable pub loopsOf : Phasor → Phases → Phases → SixLoops
 loopsOf k v i = sixOf v i (kProduct k i) (positiveSequence v) (turned a (positiveSequence v)) (turned a² (positiveSequence v))
 
--- ---- the rule
+-- ---- n and m, which no reach enters
 
--- "n = Re(V Vp*)"
-abbrev pub numerator : Loop → ℤ
-numerator l = dot (l .v) (l .vp)
+-- "n = Re(V Vp*), m = Re(Z I Vp*)"
+abbrev pub ratioOf : Phasor → Loop → Ratio
+ratioOf z l = record { n = dot (l .v) (l .vp); m = dot (times z (l .i)) (l .vp) }
 
--- "m = Re(Z I Vp*)"
-abbrev pub denominator : Phasor → Loop → ℤ
-denominator z l = dot (times z (l .i)) (l .vp)
+-- of the six
+abbrev pub ratiosOf : Phasor → SixLoops → SixRatios
+ratiosOf z l =
+    record { ag = ratioOf z (l .ag); bg = ratioOf z (l .bg); cg = ratioOf z (l .cg); ab = ratioOf z (l .ab); bc = ratioOf z (l .bc); ca = ratioOf z (l .ca) }
+
+-- ---- the rule, over any reach
 
 -- "the loop asserts exactly when m > 0 and 1000000 n <= r m"
 unfoldable pub mho : ℤ → ℤ → ℤ → Bool
 mho r n m = cond (ltZ (pos 0) m) (leZ (pos 1000000 *ℤ n) (r *ℤ m)) false
 
--- A loop at reach r
-unfoldable pub asserts : Phasor → ℤ → Loop → Bool
-asserts z r l = mho r (numerator l) (denominator z l)
+-- A loop with this n and m, at reach r
+unfoldable pub asserts : ℤ → Ratio → Bool
+asserts r q = mho r (q .n) (q .m)
 
 -- The six loop bits at reach r: "AG 1, BG 2, CG 4, AB 8, BC 16, CA 32"
-unfoldable pub loopBits : Phasor → ℤ → SixLoops → ℕ
-loopBits z r l =
-    bits (asserts z r (l .ag) ∷ asserts z r (l .bg) ∷ asserts z r (l .cg) ∷ asserts z r (l .ab) ∷ asserts z r (l .bc) ∷ asserts z r (l .ca) ∷ [])
+unfoldable pub loopBits : ℤ → SixRatios → ℕ
+loopBits r q =
+    bits (asserts r (q .ag) ∷ asserts r (q .bg) ∷ asserts r (q .cg) ∷ asserts r (q .ab) ∷ asserts r (q .bc) ∷ asserts r (q .ca) ∷ [])

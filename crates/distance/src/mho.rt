@@ -6,9 +6,9 @@ ghost use Rattle.whole.specs.Bits.{bits};
 ghost use Rattle.plane.specs.Sizes.{Inside, AllInside, phasorSize};
 ghost use Rattle.settings.specs.Table.{mostReplica, mostReach};
 ghost use Rattle.settings.specs.Fields.{Ranges};
-ghost use Rattle.distance.specs.Sizes.{numeratorSize, denominatorSize, polarisingSize, Compensates, residualSize, kProductSize, LoopInside, SixInside};
+ghost use Rattle.distance.specs.Sizes.{numeratorSize, denominatorSize, polarisingSize, Compensates, residualSize, kProductSize, LoopInside, SixInside, RatioInside, RatiosInside};
 ghost use Rattle.distance.specs.Constants.{replica, compensation};
-ghost use Rattle.distance.specs.Mho.{mho, asserts, residual, kProduct, groundLoop, phaseLoop, sixOf, loopsOf, loopBits};
+ghost use Rattle.distance.specs.Mho.{ratioOf, ratiosOf, mho, asserts, residual, kProduct, groundLoop, phaseLoop, sixOf, loopsOf, loopBits};
 use crate::constants;
 use crate::sequence;
 use plane::Phases;
@@ -30,6 +30,22 @@ pub struct SixLoops {
     pub ab: Loop,
     pub bc: Loop,
     pub ca: Loop,
+}
+
+// n and m of a loop. The loop asserts at a reach of n over m, and beyond.
+pub struct Ratio {
+    pub n: i64,
+    pub m: i64,
+}
+
+// n and m of each of the six.
+pub struct SixRatios {
+    pub ag: Ratio,
+    pub bg: Ratio,
+    pub cg: Ratio,
+    pub ab: Ratio,
+    pub bc: Ratio,
+    pub ca: Ratio,
 }
 
 // k is in thousandths.
@@ -113,6 +129,38 @@ pub fn loops(s: &[u8], v: Phases, i: Phases) -> SixLoops
     six(v, i, k, p, ap, a2p)
 }
 
+// n and m of a loop.
+fn ratio_of(z: Phasor, l: Loop) -> Ratio
+    requires { ⌜ Inside mostReplica z × LoopInside l ⌝ }
+    ensures { λ q. ⌜ (q ≡ ratioOf z l) × RatioInside q ⌝ }
+{
+    let n = plane::dot(l.v, l.vp);
+    let m = plane::dot(plane::times(z, l.i), l.vp);
+    Ratio { n, m }
+}
+
+// n and m of the six, by a good settings record: formed once, whatever the reach.
+pub fn ratios_of(s: &[u8], l: SixLoops) -> SixRatios
+    requires { ⌜ Ranges (now s) × SixInside l ⌝ }
+    ensures { λ q. ⌜ (q ≡ ratiosOf (replica (now (s .entry))) l) × RatiosInside q ⌝ }
+{
+    let z = constants::replica(s);
+    let ag = ratio_of(z, l.ag);
+    let bg = ratio_of(z, l.bg);
+    let cg = ratio_of(z, l.cg);
+    let ab = ratio_of(z, l.ab);
+    let bc = ratio_of(z, l.bc);
+    let ca = ratio_of(z, l.ca);
+    SixRatios {
+        ag,
+        bg,
+        cg,
+        ab,
+        bc,
+        ca,
+    }
+}
+
 // The mho rule at reach r.
 fn mho(r: i64, n: i64, m: i64) -> bool
     requires { ⌜ Within mostReach r × Within numeratorSize n × Within denominatorSize m ⌝ }
@@ -121,14 +169,12 @@ fn mho(r: i64, n: i64, m: i64) -> bool
     0 < m && REACH_SCALE * n <= r * m
 }
 
-// Whether a loop asserts at reach r.
-fn asserts(z: Phasor, r: i64, l: Loop) -> bool
-    requires { ⌜ Inside mostReplica z × Within mostReach r × LoopInside l ⌝ }
-    ensures { λ x. ⌜ x ≡ asserts z r l ⌝ }
+// Whether a loop with this n and m asserts at reach r.
+fn asserts(r: i64, q: Ratio) -> bool
+    requires { ⌜ Within mostReach r × RatioInside q ⌝ }
+    ensures { λ x. ⌜ x ≡ asserts r q ⌝ }
 {
-    let n = plane::dot(l.v, l.vp);
-    let m = plane::dot(plane::times(z, l.i), l.vp);
-    mho(r, n, m)
+    mho(r, q.n, q.m)
 }
 
 // The bits of six loops: AG 1, BG 2, CG 4, AB 8, BC 16, CA 32.
@@ -144,17 +190,16 @@ fn six_bits(ag: bool, bg: bool, cg: bool, ab: bool, bc: bool, ca: bool) -> u8
     )
 }
 
-// The six loop bits at reach r, by a good settings record.
-pub fn loop_bits(s: &[u8], r: i64, l: SixLoops) -> u8
-    requires { ⌜ Ranges (now s) × Within mostReach r × SixInside l ⌝ }
-    ensures { λ x. ⌜ x ≡ loopBits (replica (now (s .entry))) r l ⌝ }
+// The six loop bits at reach r: of either zone.
+pub fn loop_bits(r: i64, q: SixRatios) -> u8
+    requires { ⌜ Within mostReach r × RatiosInside q ⌝ }
+    ensures { λ x. ⌜ x ≡ loopBits r q ⌝ }
 {
-    let z = constants::replica(s);
-    let ag = asserts(z, r, l.ag);
-    let bg = asserts(z, r, l.bg);
-    let cg = asserts(z, r, l.cg);
-    let ab = asserts(z, r, l.ab);
-    let bc = asserts(z, r, l.bc);
-    let ca = asserts(z, r, l.ca);
+    let ag = asserts(r, q.ag);
+    let bg = asserts(r, q.bg);
+    let cg = asserts(r, q.cg);
+    let ab = asserts(r, q.ab);
+    let bc = asserts(r, q.bc);
+    let ca = asserts(r, q.ca);
     six_bits(ag, bg, cg, ab, bc, ca)
 }

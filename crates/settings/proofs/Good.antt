@@ -2,17 +2,19 @@
 use Prim.Native.Nat.{ℕ}
 use mathlib.Core.Path.{_≡_, refl, sym, subst}
 use mathlib.Core.List.{List, [], _∷_}
-use mathlib.Core.Bool.{Bool, true, false, cond, and-eq-true-iff}
+use mathlib.Core.Logic.{_⊎_, inl, inr, ⊎-elim}
+use mathlib.Core.Bool.{Bool, true, false, cond, _||_, and-eq-true-iff, false≢true}
 use native.Mathlib.Omega.{arith}
 use borrow.Author.Needs.{needs}
-use borrow.Author.Tests.{leb-true, le-leb}
-use lib.Dec.{leb}
+use borrow.Author.Tests.{leb-true, le-leb, eqb-true, eq-eqb}
+use lib.Dec.{eqb, leb}
 use lib.IntN.{ℤ}
 use lib.Signed.{leZ}
 use Rattle.whole.proofs.Machine.{le-true, lt-true, true-le, true-lt}
 use Rattle.settings.specs.declared.Checked.the-variants.{Good, Bad}
-use Rattle.settings.specs.Table.{Rule, Unsigned, Signed, Squares, Below, Byte, offsetOf, settingsTable}
-use Rattle.settings.specs.Check.{between, betweenSigned, holds, checkedBy, FirstFault, here, later, checked}
+use Rattle.settings.specs.Record.{fieldAt}
+use Rattle.settings.specs.Table.{Rule, Unsigned, Signed, Squares, Below, OffOrFrom, Byte, offsetOf, settingsTable}
+use Rattle.settings.specs.Check.{between, betweenSigned, offOrBetween, holds, checkedBy, FirstFault, here, later, checked}
 use Rattle.settings.specs.Fields.{From, FromSigned, Keeps, AllKept, Ranges}
 
 same-offset : (j k : ℕ) → Bad j ≡ Bad k → j ≡ k
@@ -33,11 +35,19 @@ from-signed low high v t =
     let p = and-eq-true-iff (leZ low v) (leZ v high) .0 t in
     record { least = le-true (p .0); most = le-true (p .1) }
 
+off-or-from : (low high v : ℕ) → offOrBetween low high v ≡ true → (v ≡ 0) ⊎ From low high v
+off-or-from low high v t = by-test (eqb v 0) refl t
+  where
+    by-test : (b : Bool) → eqb v 0 ≡ b → b || between low high v ≡ true → (v ≡ 0) ⊎ From low high v
+    by-test true z t = inl (eqb-true v 0 z)
+    by-test false z t = inr (from low high v t)
+
 keeps : (s : List ℕ) (r : Rule) → holds s r ≡ true → Keeps s r
 keeps s (Unsigned at low high) t = from low high _ t
 keeps s (Signed at low high) t = from-signed low high _ t
 keeps s (Squares x y low high) t = from low high _ t
 keeps s (Below x y) t = lt-true t
+keeps s (OffOrFrom x y high) t = off-or-from (fieldAt s x) high (fieldAt s y) t
 keeps s (Byte at low high) t = from low high _ t
 
 in-from : (low high v : ℕ) → From low high v → between low high v ≡ true
@@ -46,11 +56,20 @@ in-from low high v f = and-eq-true-iff (leb low v) (leb v high) .1 (le-leb low v
 in-from-signed : (low high v : ℤ) → FromSigned low high v → betweenSigned low high v ≡ true
 in-from-signed low high v f = and-eq-true-iff (leZ low v) (leZ v high) .1 (true-le (f .least), true-le (f .most))
 
+in-off-or-from : (low high v : ℕ) → (v ≡ 0) ⊎ From low high v → offOrBetween low high v ≡ true
+in-off-or-from low high v (inl z) = rw z
+in-off-or-from low high v (inr f) = by-test (eqb v 0)
+  where
+    by-test : (b : Bool) → b || between low high v ≡ true
+    by-test true = refl
+    by-test false = in-from low high v f
+
 kept : (s : List ℕ) (r : Rule) → Keeps s r → holds s r ≡ true
 kept s (Unsigned at low high) k = in-from low high _ k
 kept s (Signed at low high) k = in-from-signed low high _ k
 kept s (Squares x y low high) k = in-from low high _ k
 kept s (Below x y) k = true-lt k
+kept s (OffOrFrom x y high) k = in-off-or-from (fieldAt s x) high (fieldAt s y) k
 kept s (Byte at low high) k = in-from low high _ k
 
 -- ---- a record is good by a table exactly where it keeps every rule

@@ -2,15 +2,15 @@
 use Prim.Native.Nat.{ℕ, _+_, _*_}
 use mathlib.Core.Path.{_≡_}
 use mathlib.Core.List.{List, [], _∷_}
-use mathlib.Core.Bool.{Bool, true, false, cond, _&&_}
+use mathlib.Core.Bool.{Bool, true, false, cond, _&&_, _||_}
 use lib.ListN.{getD}
 use lib.IntN.{ℤ}
 use lib.Signed.{leZ, ltZ}
-use lib.Dec.{leb}
+use lib.Dec.{eqb, leb}
 use Rattle.settings.specs.declared.Checked.{Checked}
 use Rattle.settings.specs.declared.Checked.the-variants.{Good, Bad}
 use Rattle.settings.specs.Record.{fieldAt, signedAt}
-use Rattle.settings.specs.Table.{Rule, Unsigned, Signed, Squares, Below, Byte, offsetOf, settingsTable}
+use Rattle.settings.specs.Table.{Rule, Unsigned, Signed, Squares, Below, OffOrFrom, Byte, offsetOf, settingsTable}
 
 -- From a least to a greatest number.
 abbrev pub between : ℕ → ℕ → ℕ → Bool
@@ -19,12 +19,17 @@ between low high v = leb low v && leb v high
 abbrev pub betweenSigned : ℤ → ℤ → ℤ → Bool
 betweenSigned low high v = leZ low v && leZ v high
 
+-- 0, or from a least to a greatest number.
+abbrev pub offOrBetween : ℕ → ℕ → ℕ → Bool
+offOrBetween low high v = eqb v 0 || between low high v
+
 -- Whether a record keeps a rule.
 abbrev pub holds : List ℕ → Rule → Bool
 holds s (Unsigned at low high) = between low high (fieldAt s at)
 holds s (Signed at low high) = betweenSigned low high (signedAt s at)
 holds s (Squares x y low high) = between low high (fieldAt s x * fieldAt s x + fieldAt s y * fieldAt s y)
 holds s (Below x y) = ltZ (signedAt s x) (signedAt s y)
+holds s (OffOrFrom x y high) = offOrBetween (fieldAt s x) high (fieldAt s y)
 holds s (Byte at low high) = between low high (getD s at 0)
 
 -- The first rule of a list that a record breaks.

@@ -59,8 +59,11 @@ examples =
     ∷ example 22 65236 (Bad 22) ∷ example 22 65237 Good ∷ example 22 20000 Good ∷ example 22 20001 (Bad 22)
     -- pickup of 3I2
     ∷ example 24 0 (Bad 24) ∷ example 24 1 Good ∷ example 24 42000 Good ∷ example 24 42001 (Bad 24)
+    -- second reach, beside a first of 850: byte 27 alone, byte 26 alone; off is the record itself
+    ∷ example 26 1 (Bad 26) ∷ example 26 256 (Bad 26) ∷ example 26 849 (Bad 26) ∷ example 26 850 Good ∷ example 26 2000 Good
+    ∷ example 26 2001 (Bad 26)
     -- spare bytes
-    ∷ example 26 256 (Bad 26) ∷ example 26 1 (Bad 27) ∷ example 28 256 (Bad 28) ∷ example 28 1 (Bad 29)
+    ∷ example 28 256 (Bad 28) ∷ example 28 1 (Bad 29)
     ∷ example 30 256 (Bad 30) ∷ example 30 1 (Bad 31)
     ∷ []
 

@@ -1,11 +1,13 @@
 -- Document 01, "Settings record": the fields by name, each where its row of the table says, and the range of each in every good record.
 use Prim.Native.Nat.{ℕ, _+_, _*_, _≤_}
+use mathlib.Core.Path.{_≡_}
+use mathlib.Core.Logic.{_⊎_}
 use mathlib.Core.List.{List, [], _∷_}
 use lib.ListN.{getD}
 use lib.IntN.{ℤ}
 use lib.Signed.{_≤ℤ_, _<ℤ_}
 use Rattle.settings.specs.Record.{fieldAt, signedAt}
-use Rattle.settings.specs.Table.{Rule, Unsigned, Signed, Squares, Below, Byte, offsetOf, endsRow, slopeRow, pickupRow, replicaRealRow, replicaImaginaryRow, reachRow, kRealRow, kImaginaryRow, angleRealRow, angleImaginaryRow, angleSizeRow, forwardLimitRow, reverseLimitRow, limitsOrderRow, negativeSequencePickupRow, spareRows}
+use Rattle.settings.specs.Table.{Rule, Unsigned, Signed, Squares, Below, OffOrFrom, Byte, offsetOf, endsRow, slopeRow, pickupRow, replicaRealRow, replicaImaginaryRow, reachRow, kRealRow, kImaginaryRow, angleRealRow, angleImaginaryRow, angleSizeRow, forwardLimitRow, reverseLimitRow, limitsOrderRow, negativeSequencePickupRow, secondReachRow, spareRows}
 
 -- N, the ends of the line.
 abbrev pub ends : List ℕ → ℕ
@@ -55,6 +57,10 @@ reverseLimit s = signedAt s (offsetOf reverseLimitRow)
 abbrev pub negativeSequencePickup : List ℕ → ℕ
 negativeSequencePickup s = fieldAt s (offsetOf negativeSequencePickupRow)
 
+-- The second reach, thousandths of the replica; 0 where the second zone is off (document 02, CR 2).
+abbrev pub secondReach : List ℕ → ℕ
+secondReach s = fieldAt s (offsetOf secondReachRow)
+
 -- ---- what it is to keep a rule, as a fact about numbers
 
 -- From a least to a greatest number.
@@ -72,6 +78,7 @@ Keeps s (Unsigned at low high) = From low high (fieldAt s at)
 Keeps s (Signed at low high) = FromSigned low high (signedAt s at)
 Keeps s (Squares x y low high) = From low high (fieldAt s x * fieldAt s x + fieldAt s y * fieldAt s y)
 Keeps s (Below x y) = signedAt s x <ℤ signedAt s y
+Keeps s (OffOrFrom x y high) = (fieldAt s y ≡ 0) ⊎ From (fieldAt s x) high (fieldAt s y)
 Keeps s (Byte at low high) = From low high (getD s at 0)
 
 -- Every rule of a list is kept.
@@ -96,4 +103,5 @@ pub record Ranges (s : List ℕ) : Type 0 where
   pub reverseLimit-range : Keeps s reverseLimitRow
   pub limits-order : Keeps s limitsOrderRow
   pub negativeSequencePickup-range : Keeps s negativeSequencePickupRow
+  pub secondReach-range : Keeps s secondReachRow
   pub spare-bytes : AllKept spareRows s

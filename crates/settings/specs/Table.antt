@@ -1,6 +1,6 @@
 -- Document 01, "Settings record": the table as data, in the order of the checks. Each field's row has a name, and it alone says the offset
 -- and the limits: `Fields` takes both from it. A sum-of-squares fault is at 18 and zf not below zr at 22, each found when that offset's own range has
--- passed; each spare byte is at its own offset.
+-- passed; every fault of the second reach is at 26 (document 02, CR 2); each spare byte is at its own offset.
 use Prim.Native.Nat.{ℕ}
 use mathlib.Core.List.{List, [], _∷_, _++_}
 use lib.IntN.{ℤ, pos}
@@ -16,6 +16,8 @@ pub data Rule : Type 0 where
   Squares : (x y low high : ℕ) → Rule
   -- a signed field below another
   Below : (x y : ℕ) → Rule
+  -- a field that is 0, which is off, or from the number of another field to a greatest one
+  OffOrFrom : (x y high : ℕ) → Rule
   -- the byte at an offset, from a least to a greatest number
   Byte : (at low high : ℕ) → Rule
 
@@ -25,6 +27,7 @@ offsetOf (Unsigned at low high) = at
 offsetOf (Signed at low high) = at
 offsetOf (Squares x y low high) = y
 offsetOf (Below x y) = y
+offsetOf (OffOrFrom x y high) = y
 offsetOf (Byte at low high) = at
 
 -- ---- the limits that have a name of their own: those of more rows than one, and those from which the layers above reckon how large a
@@ -46,7 +49,7 @@ mostCounts = 42000
 abbrev pub mostReplica : ℕ
 mostReplica = 20000
 
--- the reach, thousandths of the replica
+-- both reaches, thousandths of the replica
 abbrev pub mostReach : ℕ
 mostReach = 2000
 
@@ -128,6 +131,10 @@ limitsOrderRow = Below (offsetOf forwardLimitRow) (offsetOf reverseLimitRow)
 abbrev pub negativeSequencePickupRow : Rule
 negativeSequencePickupRow = Unsigned 24 1 mostCounts
 
+-- second reach, thousandths of the replica: "0 is off, else 1 to 2000 and not below the first reach" (document 02, CR 2); the first is 1 at least
+abbrev pub secondReachRow : Rule
+secondReachRow = OffOrFrom (offsetOf reachRow) 26 mostReach
+
 -- ---- the parts of the table: the code has one function for each
 
 abbrev pub differentialRows : List Rule
@@ -144,11 +151,11 @@ directionRows = forwardLimitRow ∷ reverseLimitRow ∷ limitsOrderRow ∷ negat
 
 -- zero bytes, so far without a use
 abbrev pub spareRows : List Rule
-spareRows = Byte 26 0 0 ∷ Byte 27 0 0 ∷ Byte 28 0 0 ∷ Byte 29 0 0 ∷ Byte 30 0 0 ∷ Byte 31 0 0 ∷ []
+spareRows = Byte 28 0 0 ∷ Byte 29 0 0 ∷ Byte 30 0 0 ∷ Byte 31 0 0 ∷ []
 
 -- bytes 26 to 31: a field that takes some of them up stands here, before those that are still spare
 abbrev pub tailRows : List Rule
-tailRows = spareRows
+tailRows = secondReachRow ∷ spareRows
 
 unfoldable pub settingsTable : List Rule
 settingsTable = differentialRows ++ distanceRows ++ angleRows ++ directionRows ++ tailRows

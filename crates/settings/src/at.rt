@@ -24,3 +24,5 @@ pub const FORWARD_LIMIT: u8 = 20;
 pub const REVERSE_LIMIT: u8 = 22;
 
 pub const NEGATIVE_SEQUENCE_PICKUP: u8 = 24;
+
+pub const SECOND_REACH: u8 = 26;

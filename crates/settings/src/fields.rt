@@ -2,7 +2,7 @@
 ghost use mathlib.Core.Path.{_≡_};
 ghost use lib.IntN.{pos};
 ghost use Rattle.settings.specs.Record.{fieldAt};
-ghost use Rattle.settings.specs.Fields.{ends, slope, pickup, replicaReal, replicaImaginary, reach, kReal, kImaginary, angleReal, angleImaginary, forwardLimit, reverseLimit, negativeSequencePickup};
+ghost use Rattle.settings.specs.Fields.{ends, slope, pickup, replicaReal, replicaImaginary, reach, kReal, kImaginary, angleReal, angleImaginary, forwardLimit, reverseLimit, negativeSequencePickup, secondReach};
 use crate::at;
 
 // An unsigned field, among signed numbers.
@@ -97,4 +97,11 @@ pub fn negative_sequence_pickup(s: &[u8]) -> i64
     ensures { λ r. ⌜ r ≡ pos (negativeSequencePickup (now (s .entry))) ⌝ }
 {
     counted(s, at::NEGATIVE_SEQUENCE_PICKUP)
+}
+
+// The second reach, thousandths of the replica; 0 where the second zone is off (document 02, CR 2).
+pub fn second_reach(s: &[u8]) -> i64
+    ensures { λ r. ⌜ r ≡ pos (secondReach (now (s .entry))) ⌝ }
+{
+    counted(s, at::SECOND_REACH)
 }

@@ -3,8 +3,8 @@ ghost use mathlib.Core.Path.{_≡_};
 ghost use Prim.Native.Nat.{_+_, _*_, _<_};
 ghost use lib.ListN.{length, getD};
 ghost use Rattle.settings.specs.Record.{recordLength, fieldAt, signedAt};
-ghost use Rattle.settings.specs.Table.{Unsigned, Signed, Squares, Below, Byte, differentialRows, distanceRows, angleRows, directionRows, tailRows};
-ghost use Rattle.settings.specs.Check.{between, betweenSigned, judged, after, afterAll, checked};
+ghost use Rattle.settings.specs.Table.{Unsigned, Signed, Squares, Below, OffOrFrom, Byte, differentialRows, distanceRows, angleRows, directionRows, tailRows};
+ghost use Rattle.settings.specs.Check.{between, betweenSigned, offOrBetween, judged, after, afterAll, checked};
 
 pub mod at; // the offsets by name
 pub mod fields; // the fields by name
@@ -91,6 +91,13 @@ fn between_signed(v: i64, low: i64, high: i64) -> bool
     if low <= v { v <= high } else { false }
 }
 
+// 0, or from a least to a greatest number.
+fn off_or_between(v: u64, low: u64, high: u64) -> bool
+    ensures { λ r. ⌜ r ≡ offOrBetween low high v ⌝ }
+{
+    if v == 0 { true } else { between(v, low, high) }
+}
+
 // What the squares of two 16-bit numbers come to.
 fn sum_of_squares(x: u64, y: u64) -> u64
     requires { ⌜ (x < 65536) × (y < 65536) ⌝ }
@@ -154,6 +161,16 @@ fn below_rule(found: Checked, s: &[u8], x: u8, y: u8) -> Checked
     match found {
         Checked::Bad(k) => Checked::Bad(k),
         Checked::Good => judged(signed_field(s, x) < signed_field(s, y), y),
+    }
+}
+
+// A field is 0, or from the number of another to a greatest one; a fault is at its own offset.
+fn off_or_from_rule(found: Checked, s: &[u8], x: u8, y: u8, high: u64) -> Checked
+    ensures { λ r. ⌜ r ≡ after found (now (s .entry)) (OffOrFrom x y high) ⌝ }
+{
+    match found {
+        Checked::Bad(k) => Checked::Bad(k),
+        Checked::Good => judged(off_or_between(field(s, y), field(s, x), high), y),
     }
 }
 
@@ -221,12 +238,11 @@ fn direction_part(found: Checked, s: &[u8]) -> Checked
     unsigned_rule(found, s, at::NEGATIVE_SEQUENCE_PICKUP, 1, MOST_COUNTS)
 }
 
-// The last bytes: zero so far.
+// The second reach, and the bytes that are zero so far.
 fn tail_part(found: Checked, s: &[u8]) -> Checked
     ensures { λ r. ⌜ r ≡ afterAll found (now (s .entry)) tailRows ⌝ }
 {
-    let found = byte_rule(found, s, 26, 0, 0);
-    let found = byte_rule(found, s, 27, 0, 0);
+    let found = off_or_from_rule(found, s, at::REACH, at::SECOND_REACH, MOST_REACH);
     let found = byte_rule(found, s, 28, 0, 0);
     let found = byte_rule(found, s, 29, 0, 0);
     let found = byte_rule(found, s, 30, 0, 0);

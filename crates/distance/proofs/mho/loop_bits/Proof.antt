@@ -17,20 +17,18 @@ returns c =
     let c3 = c4 .before in
     let c2 = c3 .before in
     let c1 = c2 .before in
-    let s = c1 .before .before .before in
-    let z = c1 .before .replica .ensures .0 in
-    let r = toZ-ofZ (s .fits .r) in
-    let ag = rw (r, z) at (c1 .asserts .ensures) in
-    let bg = rw (r, z) at (c2 .asserts2 .ensures) in
-    let cg = rw (r, z) at (c3 .asserts3 .ensures) in
-    let ab = rw (r, z) at (c4 .asserts4 .ensures) in
-    let bc = rw (r, z) at (c5 .asserts5 .ensures) in
-    let ca = rw (r, z) at (c6 .asserts6 .ensures) in
+    let r = toZ-ofZ (c1 .before .fits .r) in
+    let ag = rw r at (c1 .asserts .ensures) in
+    let bg = rw r at (c2 .asserts2 .ensures) in
+    let cg = rw r at (c3 .asserts3 .ensures) in
+    let ab = rw r at (c4 .asserts4 .ensures) in
+    let bc = rw r at (c5 .asserts5 .ensures) in
+    let ca = rw r at (c6 .asserts6 .ensures) in
     c .six-bits .ensures ∙ (λ k. bits (ag k ∷ bg k ∷ cg k ∷ ab k ∷ bc k ∷ ca k ∷ []))
 
 pub loop-bits-spec : {M : Type 1} → statement M
 loop-bits-spec =
     tie.close
     (tie.spec
-    (λ c κs. search) (λ c κs. search (along, toZ-ofZ)) (λ c κs. search (along, toZ-ofZ)) (λ c κs. search (along, toZ-ofZ))
+    (λ c κs. search (along, toZ-ofZ)) (λ c κs. search (along, toZ-ofZ)) (λ c κs. search (along, toZ-ofZ))
     (λ c κs. search (along, toZ-ofZ)) (λ c κs. search (along, toZ-ofZ)) (λ c κs. search (along, toZ-ofZ)) (λ c κs. search) returns)

@@ -1,0 +1,136 @@
+-- The second zone has what the first has, since its reach is not below; all that a decision says but byte 4 is read from the other bytes of
+-- the record; and a second reach of zero is two spare bytes.
+use Prim.Native.Nat.{ℕ, zero, suc, _+_, _<_}
+use mathlib.Core.Path.{_≡_, refl, sym, ap, _∙_}
+use mathlib.Core.Logic.{⊎-elim}
+use mathlib.Core.List.{List, [], _∷_, _++_}
+use mathlib.Core.Bool.{Bool, true, false, cond, false≢true}
+use native.Mathlib.Omega.{arith}
+use borrow.Author.Needs.{needs}
+use borrow.Author.Tests.{ne-eqb}
+use lib.Dec.{eqb}
+use lib.IntN.{ℤ, pos}
+use lib.ListN.{getD, drop}
+use lib.Signed.{_≤ℤ_}
+use Rattle.whole.specs.Bits.{bits}
+use Rattle.whole.proofs.Order.{le-ℤ}
+use Rattle.settings.specs.declared.Checked.the-variants.{Good, Bad}
+use Rattle.settings.specs.Record.{fieldAt}
+use Rattle.settings.specs.Table.{Rule, Byte, offsetOf, differentialRows, distanceRows, angleRows, directionRows, tailRows, spareRows, settingsTable}
+use Rattle.settings.specs.Check.{holds, checkedBy, checked}
+use Rattle.settings.specs.Fields.{Keeps, reach, secondReach}
+use Rattle.settings.proofs.Good.{all-kept}
+use Rattle.distance.specs.declared.mho.Ratio.{Ratio}
+use Rattle.distance.specs.Direction.{reachesPickup, directionOf}
+use Rattle.distance.specs.Mho.{asserts, loopBits}
+use Rattle.distance.proofs.Laws.{larger-reach}
+use Rattle.decision.specs.declared.Findings.{Findings}
+use Rattle.decision.specs.Decision.{findings, decisionLength, decisionBytes, decision}
+use Rattle.gorsepetal.proofs.Good.{in-range}
+use Rattle.claims.specs.Bits.{isSet}
+use Rattle.claims.specs.Demand2.{byte}
+use Rattle.claims.specs.SecondZone.{SameElsewhere, SecondZoneHasFirst, OtherBytesStay, tableBefore, RecordsFromBefore}
+use Rattle.claims.proofs.Bits.{bit-is}
+use Rattle.claims.proofs.Decisions.{good, front}
+use Rattle.claims.proofs.Demand2.{assert, second}
+
+-- ---- the second zone has what the first has
+
+-- each yes of a list is one of another
+abbrev Leads : List Bool → List Bool → Type 0
+Leads [] cs = Unit {0}
+Leads (b ∷ bs) [] = ⊥
+Leads (b ∷ bs) (c ∷ cs) = (b ≡ true → c ≡ true) × Leads bs cs
+
+led : (bs cs : List Bool) → Leads bs cs → (k : ℕ) → getD bs k false ≡ true → getD cs k false ≡ true
+led [] cs h k t = absurd (false≢true t)
+led (b ∷ bs) [] h k t = absurd h
+led (b ∷ bs) (c ∷ cs) h zero t = h .0 t
+led (b ∷ bs) (c ∷ cs) h (suc k) t = led bs cs (h .1) k t
+
+pub second-zone-has-first : SecondZoneHasFirst
+unfolding findings loopBits
+second-zone-has-first s w out d c on k t =
+    let range = in-range s (good c) in
+    let not-below : pos (reach s) ≤ℤ pos (secondReach s) = ⊎-elim (λ z. absurd (on z)) (λ f. le-ℤ (f .least)) (range .secondReach-range) in
+    let more : (q : Ratio) → asserts (pos (reach s)) q ≡ true → asserts (pos (secondReach s)) q ≡ true = λ q. larger-reach (pos (reach s)) (pos (secondReach s)) q not-below in
+    let first = assert s w (reach s) in
+    let further = assert s w (secondReach s) in
+    let set : isSet k (bits first) ≡ true = sym (ap (λ x. isSet k (byte x 2)) (front c)) ∙ t in
+    let seen : byte d 4 ≡ bits further = ap (λ x. byte x 4) (front c) ∙ ap (second s w) (ne-eqb (secondReach s) 0 on) in
+    ap (isSet k) seen ∙ bit-is further k
+    ∙ led first further (more _, (more _, (more _, (more _, (more _, (more _, tt)))))) k (sym (bit-is first k) ∙ set)
+
+-- ---- all bytes of a decision but byte 4
+
+-- what was found, with nothing in the second zone
+abbrev unlit : Findings → Findings
+unlit f = record { operating = f .operating; asserting = f .asserting; overreaching = 0; direction = f .direction; comparisons = f .comparisons }
+
+but-4 : (f : Findings) (rest : List ℕ) (k : ℕ) → (k ≡ 4 → ⊥) → getD (decisionBytes f ++ rest) k 0 ≡ getD (decisionBytes (unlit f) ++ rest) k 0
+but-4 f rest zero n = refl
+but-4 f rest (suc zero) n = refl
+but-4 f rest (suc (suc zero)) n = refl
+but-4 f rest (suc (suc (suc zero))) n = refl
+but-4 f rest (suc (suc (suc (suc zero)))) n = absurd (n refl)
+but-4 f rest (suc (suc (suc (suc (suc k))))) n = refl
+
+-- every other field is the same in both records
+module _ (s t : List ℕ) (h : SameElsewhere s t) where
+  same-field : (at : ℕ) → at + 1 < 26 → fieldAt s at ≡ fieldAt t at
+  same-field at l = rw (h at (λ e. omega arith) (λ e. omega arith), h (at + 1) (λ e. omega arith) (λ e. omega arith))
+
+  same-findings : (w : List ℤ) → unlit (findings s w) ≡ unlit (findings t w)
+  unfolding findings directionOf reachesPickup
+  same-findings w =
+      rw (
+        same-field 0 (omega arith),
+        same-field 2 (omega arith),
+        same-field 4 (omega arith),
+        same-field 6 (omega arith),
+        same-field 8 (omega arith),
+        same-field 10 (omega arith),
+        same-field 12 (omega arith),
+        same-field 14 (omega arith),
+        same-field 16 (omega arith),
+        same-field 18 (omega arith),
+        same-field 20 (omega arith),
+        same-field 22 (omega arith),
+        same-field 24 (omega arith),
+      )
+
+pub other-bytes-stay : OtherBytesStay
+other-bytes-stay s t w out d e h c b k n =
+    let rest = drop decisionLength out in
+    ap (λ x. byte x k) (front c) ∙ but-4 (findings s w) rest k n ∙ ap (λ f. getD (decisionBytes f ++ rest) k 0) (same-findings s t h w)
+    ∙ sym (but-4 (findings t w) rest k n) ∙ sym (ap (λ x. byte x k) (front b))
+
+-- ---- records from before
+
+-- rules in front of two lists that find the same
+behind : (rs ts us : List Rule) (s : List ℕ) → checkedBy ts s ≡ checkedBy us s → checkedBy (rs ++ ts) s ≡ checkedBy (rs ++ us) s
+unfolding checkedBy
+behind [] ts us s e = e
+behind (r ∷ rs) ts us s e = ap (λ x. cond (holds s r) x (Bad (offsetOf r))) (behind rs ts us s e)
+
+spare-alike : (s : List ℕ) → getD s 26 0 ≡ 0 → getD s 27 0 ≡ 0 → checkedBy tailRows s ≡ checkedBy (Byte 26 0 0 ∷ Byte 27 0 0 ∷ spareRows) s
+unfolding checkedBy
+spare-alike s high low = rw (high, low)
+
+found-alike : (s : List ℕ) → getD s 26 0 ≡ 0 → getD s 27 0 ≡ 0 → checked s ≡ checkedBy tableBefore s
+unfolding settingsTable
+found-alike s high low = behind (differentialRows ++ distanceRows ++ angleRows ++ directionRows) tailRows (Byte 26 0 0 ∷ Byte 27 0 0 ∷ spareRows) s (spare-alike s high low)
+
+pub records-from-before : RecordsFromBefore
+records-from-before =
+    record {
+      found-alike = found-alike;
+      good-before = λ s. (
+        λ g.
+            let kept = all-kept tableBefore s g in
+            let high : Keeps s (Byte 26 0 0) = search needs in
+            let low : Keeps s (Byte 27 0 0) = search needs in
+            (found-alike s (omega (arith, high .most)) (omega (arith, low .most)) ∙ g, omega (arith, high .most, low .most)),
+        λ h. sym (found-alike s (omega (arith, h .1)) (omega (arith, h .1))) ∙ h .0,
+      );
+    }

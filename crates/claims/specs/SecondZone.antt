@@ -1,0 +1,43 @@
+-- Document 02, CR 2: the second zone beside the first, and what it does not move. s is the settings record in force, w the window's numbers, and
+-- d what the buffer holds after the call.
+use Prim.Native.Nat.{ℕ}
+use mathlib.Core.Path.{_≡_}
+use mathlib.Core.List.{List, _∷_, _++_}
+use mathlib.Core.Bool.{true}
+use lib.IntN.{ℤ}
+use lib.ListN.{getD}
+use Rattle.whole.specs.Exactly.{Exactly}
+use Rattle.settings.specs.declared.Checked.the-variants.{Good}
+use Rattle.settings.specs.Table.{Rule, Byte, differentialRows, distanceRows, angleRows, directionRows, spareRows}
+use Rattle.settings.specs.Check.{checkedBy, checked}
+use Rattle.settings.specs.Fields.{secondReach}
+use Rattle.claims.specs.Bits.{isSet}
+use Rattle.claims.specs.Decisions.{Decision}
+use Rattle.claims.specs.Demand2.{byte}
+
+-- "an overreaching zone": where it is on, a loop that asserts in the first zone asserts in the second. k is the loop's bit.
+abbrev pub SecondZoneHasFirst : Type 0
+SecondZoneHasFirst =
+    (s : List ℕ) (w : List ℤ) (out d : List ℕ) → Decision s w out d → (secondReach s ≡ 0 → ⊥)
+    → (k : ℕ) → isSet k (byte d 2) ≡ true → isSet k (byte d 4) ≡ true
+
+-- Two records that have the same bytes, but for the second reach.
+abbrev pub SameElsewhere : List ℕ → List ℕ → Type 0
+SameElsewhere s t = (k : ℕ) → (k ≡ 26 → ⊥) → (k ≡ 27 → ⊥) → getD s k 0 ≡ getD t k 0
+
+-- "It does not trip": by two such records every byte of the decision on a window is the same, but byte 4.
+abbrev pub OtherBytesStay : Type 0
+OtherBytesStay =
+    (s t : List ℕ) (w : List ℤ) (out d e : List ℕ) → SameElsewhere s t → Decision s w out d → Decision t w out e
+    → (k : ℕ) → (k ≡ 4 → ⊥) → byte d k ≡ byte e k
+
+-- The table before: bytes 26 to 31 all spare.
+abbrev pub tableBefore : List Rule
+tableBefore = differentialRows ++ distanceRows ++ angleRows ++ directionRows ++ Byte 26 0 0 ∷ Byte 27 0 0 ∷ spareRows
+
+-- "Records from before read as off."
+pub record RecordsFromBefore : Type 0 where
+  -- a record whose bytes 26 and 27 are zero is found as before: good, or bad at the same place
+  pub found-alike : (s : List ℕ) → getD s 26 0 ≡ 0 → getD s 27 0 ≡ 0 → checked s ≡ checkedBy tableBefore s
+  -- and a record was good before exactly if it is good and its second zone is off
+  pub good-before : (s : List ℕ) → Exactly (checkedBy tableBefore s ≡ Good) ((checked s ≡ Good) × (secondReach s ≡ 0))
