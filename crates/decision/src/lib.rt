@@ -6,15 +6,15 @@ ghost use lib.ListN.{length, replicate};
 ghost use Rattle.lent.specs.Lent.{over};
 ghost use Rattle.plane.specs.Sizes.{AllInside, phasorSize};
 ghost use Rattle.samples.specs.Window.{windowLength, firstMissing};
+ghost use Rattle.settings.specs.Record.{recordLength};
 ghost use Rattle.settings.specs.Fields.{Ranges, ends};
-ghost use Rattle.distance.specs.Sizes.{RatiosInside};
 ghost use Rattle.differential.specs.Sizes.{AllSized};
 ghost use Rattle.decision.specs.Decide.{Decided};
 ghost use Rattle.decision.specs.Decision.{ratiosAt, assertingBits, overreachingBits, directionAt, findings, trip, word, decisionBytes, decision};
 use answers::Answer;
 use differential::Comparisons;
 use distance::direction::Direction;
-use distance::mho::SixRatios;
+use distance::mho::ZoneBits;
 use plane::Phases;
 use samples::Found;
 
@@ -48,33 +48,19 @@ pub fn window_length(s: &[u8]) -> usize
     samples::FRAMES * samples::channels(settings::fields::ends(s) as usize)
 }
 
-// n and m of the six loops, from the voltages and the currents of end 1.
-fn ratios_at(s: &[u8], v: Phases, i: Phases) -> SixRatios
+// The loops that assert in each zone, at the reaches in force, from the voltages and the currents of end 1: none in the second where it is off.
+fn zones(s: &[u8], v: Phases, i: Phases) -> ZoneBits
     requires { ⌜ Ranges (now s) × AllInside phasorSize v × AllInside phasorSize i ⌝ }
-    ensures { λ q. ⌜ (q ≡ ratiosAt (now (s .entry)) v i) × RatiosInside q ⌝ }
+    ensures { λ r. ⌜ (r .first ≡ assertingBits (now (s .entry)) (ratiosAt (now (s .entry)) v i)) × (r .second ≡ overreachingBits (now (s .entry)) (ratiosAt (now (s .entry)) v i)) ⌝ }
 {
-    distance::mho::ratios_of(s, distance::mho::loops(s, v, i))
-}
-
-// The loops that assert at the reach in force.
-fn asserting_bits(s: &[u8], q: SixRatios) -> u8
-    requires { ⌜ Ranges (now s) × RatiosInside q ⌝ }
-    ensures { λ r. ⌜ r ≡ assertingBits (now (s .entry)) q ⌝ }
-{
-    distance::mho::loop_bits(settings::fields::reach(s), q)
-}
-
-// And at the second reach: none where it is off.
-fn overreaching_bits(s: &[u8], q: SixRatios) -> u8
-    requires { ⌜ Ranges (now s) × RatiosInside q ⌝ }
-    ensures { λ r. ⌜ r ≡ overreachingBits (now (s .entry)) q ⌝ }
-{
-    let reach = settings::fields::second_reach(s);
-    if reach == 0 {
-        0
-    } else {
-        distance::mho::loop_bits(reach, q)
+    let reach = settings::fields::reach(s);
+    let second_reach = settings::fields::second_reach(s);
+    let seen = distance::mho::zone_bits(s, reach, second_reach, distance::mho::loops(s, v, i));
+    let first = seen.first;
+    if second_reach == 0 {
+        return ZoneBits { first, second: 0 };
     }
+    seen
 }
 
 // The direction of a fault, from the same.
@@ -98,9 +84,9 @@ fn findings_in(s: &[u8], window: &[i16]) -> Findings
     let i = phasors::local(grid);
     let comparisons = differential::of_phases(grid, ends);
     let operating = differential::operating_bits(s, comparisons);
-    let q = ratios_at(s, v, i);
-    let asserting = asserting_bits(s, q);
-    let overreaching = overreaching_bits(s, q);
+    let zones = zones(s, v, i);
+    let asserting = zones.first;
+    let overreaching = zones.second;
     let direction = direction(s, v, i);
     Findings {
         operating,
@@ -202,7 +188,7 @@ fn first_missing(s: &[u8], window: &[i16]) -> Found
 }
 
 // The decision on a window, at the front of a lent buffer, by a good settings record.
-pub fn decide(s: &[u8], window: &[i16], out: &mut [u8]) -> Answer
+fn decide_by(s: &[u8], window: &[i16], out: &mut [u8]) -> Answer
     requires { ⌜ Ranges (now s) ⌝ }
     ensures { λ a. ⌜ Decided (now (s .entry)) (now (window .entry)) (now (out .entry)) a (now (out .exit)) ⌝ }
 {
@@ -220,4 +206,12 @@ pub fn decide(s: &[u8], window: &[i16], out: &mut [u8]) -> Answer
             Answer::Done
         }
     }
+}
+
+// The same by a record of 32 bytes: a slice whose length the compiler knows, so that no byte's place is tested.
+pub fn decide(s: &[u8], window: &[i16], out: &mut [u8]) -> Answer
+    requires { ⌜ Ranges (now s) × (length (now s) ≡ recordLength) ⌝ }
+    ensures { λ a. ⌜ Decided (now (s .entry)) (now (window .entry)) (now (out .entry)) a (now (out .exit)) ⌝ }
+{
+    decide_by(&s[0..settings::LENGTH], window, out)
 }

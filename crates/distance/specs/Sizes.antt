@@ -8,7 +8,6 @@ use Rattle.settings.specs.Table.{mostKReal, mostKImaginary}
 use Rattle.distance.specs.declared.mho.Loop.{Loop}
 use Rattle.distance.specs.declared.mho.SixLoops.{SixLoops}
 use Rattle.distance.specs.declared.mho.Ratio.{Ratio}
-use Rattle.distance.specs.declared.mho.SixRatios.{SixRatios}
 
 -- the sequence quantities
 abbrev pub sequenceSize : ℕ
@@ -71,11 +70,3 @@ pub record SixInside (l : SixLoops) : Type 0 where
 pub record RatioInside (q : Ratio) : Type 0 where
   pub numerator : Within numeratorSize (q .n)
   pub denominator : Within denominatorSize (q .m)
-
-pub record RatiosInside (q : SixRatios) : Type 0 where
-  pub ag-within : RatioInside (q .ag)
-  pub bg-within : RatioInside (q .bg)
-  pub cg-within : RatioInside (q .cg)
-  pub ab-within : RatioInside (q .ab)
-  pub bc-within : RatioInside (q .bc)
-  pub ca-within : RatioInside (q .ca)

@@ -6,7 +6,7 @@ ghost use Rattle.whole.specs.Bits.{bits};
 ghost use Rattle.plane.specs.Sizes.{Inside, AllInside, phasorSize};
 ghost use Rattle.settings.specs.Table.{mostReplica, mostReach};
 ghost use Rattle.settings.specs.Fields.{Ranges};
-ghost use Rattle.distance.specs.Sizes.{numeratorSize, denominatorSize, polarisingSize, Compensates, residualSize, kProductSize, LoopInside, SixInside, RatioInside, RatiosInside};
+ghost use Rattle.distance.specs.Sizes.{numeratorSize, denominatorSize, polarisingSize, Compensates, residualSize, kProductSize, LoopInside, SixInside, RatioInside};
 ghost use Rattle.distance.specs.Constants.{replica, compensation};
 ghost use Rattle.distance.specs.Mho.{ratioOf, ratiosOf, mho, asserts, residual, kProduct, groundLoop, phaseLoop, sixOf, loopsOf, loopBits};
 use crate::constants;
@@ -46,6 +46,18 @@ pub struct SixRatios {
     pub ab: Ratio,
     pub bc: Ratio,
     pub ca: Ratio,
+}
+
+// Whether a loop asserts in each of two zones.
+pub struct InZones {
+    pub first: bool,
+    pub second: bool,
+}
+
+// The loops that assert in each of two zones, as bits.
+pub struct ZoneBits {
+    pub first: u8,
+    pub second: u8,
 }
 
 // k is in thousandths.
@@ -139,28 +151,6 @@ fn ratio_of(z: Phasor, l: Loop) -> Ratio
     Ratio { n, m }
 }
 
-// n and m of the six, by a good settings record: formed once, whatever the reach.
-pub fn ratios_of(s: &[u8], l: SixLoops) -> SixRatios
-    requires { ⌜ Ranges (now s) × SixInside l ⌝ }
-    ensures { λ q. ⌜ (q ≡ ratiosOf (replica (now (s .entry))) l) × RatiosInside q ⌝ }
-{
-    let z = constants::replica(s);
-    let ag = ratio_of(z, l.ag);
-    let bg = ratio_of(z, l.bg);
-    let cg = ratio_of(z, l.cg);
-    let ab = ratio_of(z, l.ab);
-    let bc = ratio_of(z, l.bc);
-    let ca = ratio_of(z, l.ca);
-    SixRatios {
-        ag,
-        bg,
-        cg,
-        ab,
-        bc,
-        ca,
-    }
-}
-
 // The mho rule at reach r.
 fn mho(r: i64, n: i64, m: i64) -> bool
     requires { ⌜ Within mostReach r × Within numeratorSize n × Within denominatorSize m ⌝ }
@@ -190,16 +180,37 @@ fn six_bits(ag: bool, bg: bool, cg: bool, ab: bool, bc: bool, ca: bool) -> u8
     )
 }
 
-// The six loop bits at reach r: of either zone.
-pub fn loop_bits(r: i64, q: SixRatios) -> u8
-    requires { ⌜ Within mostReach r × RatiosInside q ⌝ }
-    ensures { λ x. ⌜ x ≡ loopBits r q ⌝ }
+// A loop in two zones, at reach r and at reach r2: its n and m are formed once.
+fn in_zones(z: Phasor, r: i64, r2: i64, l: Loop) -> InZones
+    requires { ⌜ Inside mostReplica z × Within mostReach r × Within mostReach r2 × LoopInside l ⌝ }
+    ensures { λ x. ⌜ (x .first ≡ asserts r (ratioOf z l)) × (x .second ≡ asserts r2 (ratioOf z l)) ⌝ }
 {
-    let ag = asserts(r, q.ag);
-    let bg = asserts(r, q.bg);
-    let cg = asserts(r, q.cg);
-    let ab = asserts(r, q.ab);
-    let bc = asserts(r, q.bc);
-    let ca = asserts(r, q.ca);
-    six_bits(ag, bg, cg, ab, bc, ca)
+    let q = ratio_of(z, l);
+    let first = asserts(r, q);
+    let second = asserts(r2, q);
+    InZones { first, second }
+}
+
+// The six loop bits at reach r and at reach r2, by a good settings record.
+pub fn zone_bits(s: &[u8], r: i64, r2: i64, l: SixLoops) -> ZoneBits
+    requires { ⌜ Ranges (now s) × Within mostReach r × Within mostReach r2 × SixInside l ⌝ }
+    ensures { λ x. ⌜ (x .first ≡ loopBits r (ratiosOf (replica (now (s .entry))) l)) × (x .second ≡ loopBits r2 (ratiosOf (replica (now (s .entry))) l)) ⌝ }
+{
+    let z = constants::replica(s);
+    let ag = in_zones(z, r, r2, l.ag);
+    let bg = in_zones(z, r, r2, l.bg);
+    let cg = in_zones(z, r, r2, l.cg);
+    let ab = in_zones(z, r, r2, l.ab);
+    let bc = in_zones(z, r, r2, l.bc);
+    let ca = in_zones(z, r, r2, l.ca);
+    let first = six_bits(ag.first, bg.first, cg.first, ab.first, bc.first, ca.first);
+    let second = six_bits(
+        ag.second,
+        bg.second,
+        cg.second,
+        ab.second,
+        bc.second,
+        ca.second,
+    );
+    ZoneBits { first, second }
 }

@@ -63,9 +63,9 @@ frame-numbers m f xs h few e =
 record-stays : (s x : List ℕ) (at : ℕ) → recordLength ≤ at → at ≤ length s → recordOf (over s at x) ≡ recordOf s
 record-stays s x at far room = sym (take-take recordLength at (over s at x) far) ∙ ap (take recordLength) (over-before s at x room) ∙ take-take recordLength at s far
 
--- and so its ranges
-pub ranges-stay : (at : ℕ) (s : List ℕ) (m : ℕ) (x : List ℤ) (s₁ : List ℕ) → recordLength ≤ at → at + storedLength ≤ length s → s₁ ≡ kept frames m at s x → Ranges (recordOf s) → Ranges (recordOf s₁)
-ranges-stay at s m x s₁ far room put g = rw (put, record-stays s _ at far (omega arith)) g
+-- and so its ranges, and its 32 bytes
+pub record-holds : (at : ℕ) (s : List ℕ) (m : ℕ) (x : List ℤ) (s₁ : List ℕ) → recordLength ≤ at → at + storedLength ≤ length s → s₁ ≡ kept frames m at s x → Ranges (recordOf s) → Ranges (recordOf s₁) × (length (recordOf s₁) ≡ recordLength)
+record-holds at s m x s₁ far room put g = rw (put, record-stays s _ at far (omega arith)) (g, length-take-le recordLength s (omega arith))
 
 module _
     (at : ℕ) (s f : List ℕ) (m : ℕ) (w : Window) (s₁ : List ℕ)

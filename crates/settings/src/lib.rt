@@ -10,7 +10,7 @@ pub mod at; // the offsets by name
 pub mod fields; // the fields by name
 
 // How many bytes a record has; `entry` says the same of any record entered twice.
-const LENGTH: usize = 32;
+pub const LENGTH: usize = 32;
 
 // The limits that have a name in the table, and the lower ones of signed fields.
 const MOST_ENDS: u64 = 6;

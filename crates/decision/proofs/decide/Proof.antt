@@ -1,24 +1,29 @@
--- `decision::decide` meets its contract: one law for each way out.
-use mathlib.Core.Path.{sym, _∙_}
+-- `decision::decide` meets its contract: the first 32 bytes of the record are the whole of it.
+use mathlib.Core.Path.{_≡_, subst, sym}
+use mathlib.Core.List.{List}
+use Prim.Native.Nat.{ℕ}
 use native.Mathlib.Omega.{arith}
 use borrow.Author.Needs.{needs}
-use Rattle.samples.proofs.Missing.{first-at}
-use Rattle.decision.proofs.Cases.{decide-2, decide-3, decide-4, decide-0}
+use denote.Ref.{now}
+use lib.ListN.{length, take}
+use lib.Seq.{take-all}
+use Rattle.settings.specs.Record.{recordLength}
+use Rattle.settings.specs.Fields.{Ranges}
 use Rattle.decision.proofs.decide.Statement.{statement}
 use Rattle.decision.proofs.decide.Tie as tie
 
-cast-t11 : tie.Need-cast-t11
-cast-t11 c =
-    let k = c .before in
-    let m = k .before .before in
-    let e = m .before .before in
-    let place = first-at _ _ (sym (m .first-missing .ensures) ∙ k .k .given .1) .0 in
-    omega (arith, place, e .if1 .left, e .before .window-length .ensures .1)
+whole : (s : List ℕ) → length s ≡ recordLength → take recordLength s ≡ s
+whole s l = take-all recordLength s (omega arith)
+
+decide-by-requires : tie.Need-decide-by-requires
+decide-by-requires c κs = let h = c .before .before .before .before .pre in subst Ranges (sym (whole _ (h .1))) (h .0)
+
+returns : tie.Need-returns
+returns c =
+    let d = c .before .before in
+    let start = d .before .before .before .before .before in
+    rw (whole (now (start .args .s)) (start .pre .1)) at (d .decide-by .ensures)
 
 pub decide-spec : {M : Type 1} → statement M
 decide-spec =
-    tie.close
-    (tie.spec
-    (λ c κs. search) (λ c. search decide-2) (λ c. search decide-3) (λ c κs. search _∙_)
-    (λ c. search) cast-t11 (λ c. search) (λ c κs. search _∙_) (λ c. search)
-    (λ c κs. search needs) (λ c. search decide-4) (λ c. search) (λ c. search decide-0))
+    tie.close (tie.spec (λ c. search needs) (λ c. search needs) (λ c. search needs) decide-by-requires (λ c. search needs) returns)

@@ -19,21 +19,18 @@ use Rattle.decision.proofs.findings_in.Tie as tie
 some : (c : tie.After-ends) → 0 < c .ends .result
 some c = omega (arith, c .ends .ensures, c .before .before .pre .0 .ends-range .least)
 
-ratios-at-requires : tie.Need-ratios-at-requires
-ratios-at-requires c κs =
+zones-requires : tie.Need-zones-requires
+zones-requires c κs =
     let l = c .before .before in
     let n = l .before .before .before in
     let grid = l .before .currents .ensures in
     (n .before .before .pre .0, l .before .before .voltages .ensures .1, rw (l .local .ensures) (filled-local (grid .0) (grid .1) (some n) .1))
 
-asserting-bits-requires : tie.Need-asserting-bits-requires
-asserting-bits-requires c κs = (ratios-at-requires (c .before) κs .0, c .ratios-at .ensures .1)
-
 returns : tie.Need-returns
 unfolding findings
 returns c =
-    let q = c .before .before .before in
-    let b = q .before in
+    let z = c .before in
+    let b = z .before in
     let o = b .before in
     let l = o .before in
     let g = l .before in
@@ -47,9 +44,9 @@ returns c =
     let currents = l .local .ensures ∙ filled-local filled (g .currents .ensures .1) (some n) .0 ∙ ap (localCurrents (rateOf s) w) ends in
     let compared = o .of-phases .ensures .0 ∙ filled-comparisons filled ∙ ap (λ k. comparisons (current (rateOf s) w k) k) ends in
     let phases = b .operating-bits .ensures ∙ ap (operatingBits _ _) compared in
-    let ratios = q .ratios-at .ensures .0 ∙ ap₂ (ratiosAt s) voltages currents in
-    let loops = c .before .before .asserting-bits .ensures ∙ ap (assertingBits s) ratios in
-    let further = c .before .overreaching-bits .ensures ∙ ap (overreachingBits s) ratios in
+    let ratios = ap₂ (ratiosAt s) voltages currents in
+    let loops = z .zones .ensures .0 ∙ ap (assertingBits s) ratios in
+    let further = z .zones .ensures .1 ∙ ap (overreachingBits s) ratios in
     let direction = c .direction .ensures ∙ ap₂ (directionAt s) voltages currents in
     (λ k. record { operating = phases k; asserting = loops k; overreaching = further k; direction = direction k; comparisons = compared k }, o .of-phases .ensures .1)
 
@@ -58,5 +55,4 @@ findings-in-spec =
     tie.close
     (tie.spec
     (λ c κs. search) (λ c κs. search needs) (λ c κs. search needs) (λ c κs. search) (λ c κs. (omega arith, search))
-    (λ c κs. search) ratios-at-requires asserting-bits-requires (λ c κs. asserting-bits-requires (c .before) κs)
-    (λ c κs. ratios-at-requires (c .before .before .before) κs) returns)
+    (λ c κs. search) zones-requires (λ c κs. zones-requires (c .before) κs) returns)

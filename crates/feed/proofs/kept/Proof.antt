@@ -6,7 +6,7 @@ use borrow.Author.Needs.{needs}
 use denote.Ref.{now}
 use lib.ListN.{length}
 use Rattle.samples.specs.Window.{numbersOf}
-use Rattle.feed.proofs.Cases.{kept-10, kept-on, ranges-stay}
+use Rattle.feed.proofs.Cases.{kept-10, kept-on, record-holds}
 use Rattle.feed.proofs.kept.Statement.{statement}
 use Rattle.feed.proofs.kept.Tie as tie
 
@@ -37,7 +37,7 @@ decide-requires c κs =
     let v = k .before .before in
     let s = v .before .before .before .before .before .before in
     let p = s .pre in
-    ranges-stay _ _ (v .frame-length .result) (numbersOf (now (s .args .frame))) _ (p .1) (p .2) (k .keep-bytes .ensures .1) (p .0)
+    record-holds _ _ (v .frame-length .result) (numbersOf (now (s .args .frame))) _ (p .1) (p .2) (k .keep-bytes .ensures .1) (p .0)
 
 returns-2 : tie.Need-returns-2
 returns-2 c =

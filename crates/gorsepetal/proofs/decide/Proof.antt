@@ -9,5 +9,5 @@ decide-spec =
     tie.close
     (tie.spec
     (λ c. search (needs, decide-17)) (λ c κs. search needs) (λ c κs. search needs) (λ c. search (needs, decide-1))
-    (λ c. search needs) (λ c. search needs) (λ c. search needs) (λ c κs. search (needs, counts)) (λ c. search needs)
+    (λ c. search needs) (λ c. search needs) (λ c. search needs) (λ c κs. (search (needs, counts), search needs)) (λ c. search needs)
     (λ c. search (needs, decide-on)))
