@@ -24,7 +24,7 @@ use Rattle.distance.specs.Constants.{replica}
 use Rattle.distance.specs.Direction.{directionOf, directionNumber}
 use Rattle.distance.specs.declared.mho.Loop.{Loop}
 use Rattle.distance.specs.declared.mho.SixLoops.{SixLoops}
-use Rattle.distance.specs.Mho.{ratioOf, ratiosOf, asserts, loopBits}
+use Rattle.distance.specs.Mho.{ratioOf, asserts, loopBits}
 use Rattle.distance.proofs.Laws.{mho-rule, forward-rule, reverse-rule}
 use Rattle.differential.specs.Differential.{comparison, magnitude, operates, operatingBits}
 use Rattle.differential.proofs.Rule.{operates-rule}

@@ -14,8 +14,8 @@ use Rattle.distance.specs.declared.direction.Direction.the-variants.{None, Forw
 use Rattle.distance.specs.Sequence.{negativeSequence}
 use Rattle.distance.specs.Constants.{replica, compensation}
 use Rattle.distance.specs.Direction.{directionOf, directionNumber}
-use Rattle.distance.specs.declared.mho.SixRatios.{SixRatios}
-use Rattle.distance.specs.Mho.{loopsOf, ratiosOf, loopBits}
+use Rattle.distance.specs.declared.mho.SixLoops.{SixLoops}
+use Rattle.distance.specs.Mho.{loopsOf, loopBits}
 use Rattle.differential.specs.declared.Comparisons.{Comparisons}
 use Rattle.differential.specs.Differential.{comparisons, magnitude, operatingBits}
 use Rattle.decision.specs.declared.Findings.{Findings}
@@ -38,17 +38,17 @@ currentsOfEnd1 s w = localCurrents (rateOf s) w (ends s)
 abbrev pub comparisonsOf : List ℕ → List ℤ → Comparisons
 comparisonsOf s w = comparisons (current (rateOf s) w (ends s)) (ends s)
 
--- n and m of the six loops, from the voltages and the currents of end 1
-abbrev pub ratiosAt : List ℕ → Phases → Phases → SixRatios
-ratiosAt s v i = ratiosOf (replica s) (loopsOf (compensation s) v i)
+-- the six loops, from the voltages and the currents of end 1
+abbrev pub loopsAt : List ℕ → Phases → Phases → SixLoops
+loopsAt s v i = loopsOf (compensation s) v i
 
 -- the loops that assert at the reach r
-abbrev pub assertingBits : List ℕ → SixRatios → ℕ
-assertingBits s q = loopBits (pos (reach s)) q
+abbrev pub assertingBits : List ℕ → SixLoops → ℕ
+assertingBits s l = loopBits (replica s) (pos (reach s)) l
 
 -- and at the second reach: none where it is off (document 02, CR 2)
-abbrev pub overreachingBits : List ℕ → SixRatios → ℕ
-overreachingBits s q = cond (eqb (secondReach s) 0) 0 (loopBits (pos (secondReach s)) q)
+abbrev pub overreachingBits : List ℕ → SixLoops → ℕ
+overreachingBits s l = cond (eqb (secondReach s) 0) 0 (loopBits (replica s) (pos (secondReach s)) l)
 
 -- the direction, from 3V2 and 3I2
 abbrev pub directionAt : List ℕ → Phases → Phases → Direction
@@ -58,8 +58,8 @@ unfoldable pub findings : List ℕ → List ℤ → Findings
 findings s w =
     record {
       operating = operatingBits (slope s) (pickup s) (comparisonsOf s w);
-      asserting = assertingBits s (ratiosAt s (voltages s w) (currentsOfEnd1 s w));
-      overreaching = overreachingBits s (ratiosAt s (voltages s w) (currentsOfEnd1 s w));
+      asserting = assertingBits s (loopsAt s (voltages s w) (currentsOfEnd1 s w));
+      overreaching = overreachingBits s (loopsAt s (voltages s w) (currentsOfEnd1 s w));
       direction = directionAt s (voltages s w) (currentsOfEnd1 s w);
       comparisons = comparisonsOf s w;
     }

@@ -10,7 +10,7 @@ ghost use Rattle.settings.specs.Record.{recordLength};
 ghost use Rattle.settings.specs.Fields.{Ranges, ends};
 ghost use Rattle.differential.specs.Sizes.{AllSized};
 ghost use Rattle.decision.specs.Decide.{Decided};
-ghost use Rattle.decision.specs.Decision.{ratiosAt, assertingBits, overreachingBits, directionAt, findings, trip, word, decisionBytes, decision};
+ghost use Rattle.decision.specs.Decision.{loopsAt, assertingBits, overreachingBits, directionAt, findings, trip, word, decisionBytes, decision};
 use answers::Answer;
 use differential::Comparisons;
 use distance::direction::Direction;
@@ -51,7 +51,7 @@ pub fn window_length(s: &[u8]) -> usize
 // The loops that assert in each zone, at the reaches in force, from the voltages and the currents of end 1: none in the second where it is off.
 fn zones(s: &[u8], v: Phases, i: Phases) -> ZoneBits
     requires { ⌜ Ranges (now s) × AllInside phasorSize v × AllInside phasorSize i ⌝ }
-    ensures { λ r. ⌜ (r .first ≡ assertingBits (now (s .entry)) (ratiosAt (now (s .entry)) v i)) × (r .second ≡ overreachingBits (now (s .entry)) (ratiosAt (now (s .entry)) v i)) ⌝ }
+    ensures { λ r. ⌜ (r .first ≡ assertingBits (now (s .entry)) (loopsAt (now (s .entry)) v i)) × (r .second ≡ overreachingBits (now (s .entry)) (loopsAt (now (s .entry)) v i)) ⌝ }
 {
     let reach = settings::fields::reach(s);
     let second_reach = settings::fields::second_reach(s);

@@ -16,7 +16,7 @@ use Rattle.distance.specs.Constants.{angle}
 use Rattle.distance.specs.Direction.{torque, directionOf}
 use Rattle.distance.specs.declared.mho.Loop.{Loop}
 use Rattle.distance.specs.declared.mho.Ratio.{Ratio}
-use Rattle.distance.specs.Mho.{loopsOf, ratioOf, ratiosOf, asserts, loopBits}
+use Rattle.distance.specs.Mho.{loopsOf, ratioOf, asserts, loopBits}
 
 -- ---- the mho rule
 
@@ -38,7 +38,7 @@ NoPolarising = (z : Phasor) (r : ℤ) (l : Loop) → l .vp ≡ plane.zero → as
 
 -- Nor does one of the six where 3V1 = 0.
 abbrev pub NoPositive : Type 0
-NoPositive = (z k : Phasor) (r : ℤ) (v i : Phases) → positiveSequence v ≡ plane.zero → loopBits r (ratiosOf z (loopsOf k v i)) ≡ 0
+NoPositive = (z k : Phasor) (r : ℤ) (v i : Phases) → positiveSequence v ≡ plane.zero → loopBits z r (loopsOf k v i) ≡ 0
 
 -- ---- direction
 

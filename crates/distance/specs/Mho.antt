@@ -11,7 +11,6 @@ use Rattle.plane.specs.Plane.{plus, minus, times, rounded, minusJ, dot}
 use Rattle.distance.specs.declared.mho.Loop.{Loop}
 use Rattle.distance.specs.declared.mho.SixLoops.{SixLoops}
 use Rattle.distance.specs.declared.mho.Ratio.{Ratio}
-use Rattle.distance.specs.declared.mho.SixRatios.{SixRatios}
 use Rattle.distance.specs.Sequence.{a, a², turned, positiveSequence}
 
 -- ---- the loops
@@ -55,11 +54,6 @@ loopsOf k v i = sixOf v i (kProduct k i) (positiveSequence v) (turned a (positiv
 abbrev pub ratioOf : Phasor → Loop → Ratio
 ratioOf z l = record { n = dot (l .v) (l .vp); m = dot (times z (l .i)) (l .vp) }
 
--- of the six
-abbrev pub ratiosOf : Phasor → SixLoops → SixRatios
-ratiosOf z l =
-    record { ag = ratioOf z (l .ag); bg = ratioOf z (l .bg); cg = ratioOf z (l .cg); ab = ratioOf z (l .ab); bc = ratioOf z (l .bc); ca = ratioOf z (l .ca) }
-
 -- ---- the rule, over any reach
 
 -- "the loop asserts exactly when m > 0 and 1000000 n <= r m"
@@ -71,6 +65,8 @@ unfoldable pub asserts : ℤ → Ratio → Bool
 asserts r q = mho r (q .n) (q .m)
 
 -- The six loop bits at reach r: "AG 1, BG 2, CG 4, AB 8, BC 16, CA 32"
-unfoldable pub loopBits : ℤ → SixRatios → ℕ
-loopBits r q =
-    bits (asserts r (q .ag) ∷ asserts r (q .bg) ∷ asserts r (q .cg) ∷ asserts r (q .ab) ∷ asserts r (q .bc) ∷ asserts r (q .ca) ∷ [])
+unfoldable pub loopBits : Phasor → ℤ → SixLoops → ℕ
+loopBits z r l =
+    bits
+    (asserts r (ratioOf z (l .ag)) ∷ asserts r (ratioOf z (l .bg)) ∷ asserts r (ratioOf z (l .cg))
+    ∷ asserts r (ratioOf z (l .ab)) ∷ asserts r (ratioOf z (l .bc)) ∷ asserts r (ratioOf z (l .ca)) ∷ [])

@@ -8,7 +8,7 @@ ghost use Rattle.settings.specs.Table.{mostReplica, mostReach};
 ghost use Rattle.settings.specs.Fields.{Ranges};
 ghost use Rattle.distance.specs.Sizes.{numeratorSize, denominatorSize, polarisingSize, Compensates, residualSize, kProductSize, LoopInside, SixInside, RatioInside};
 ghost use Rattle.distance.specs.Constants.{replica, compensation};
-ghost use Rattle.distance.specs.Mho.{ratioOf, ratiosOf, mho, asserts, residual, kProduct, groundLoop, phaseLoop, sixOf, loopsOf, loopBits};
+ghost use Rattle.distance.specs.Mho.{ratioOf, mho, asserts, residual, kProduct, groundLoop, phaseLoop, sixOf, loopsOf, loopBits};
 use crate::constants;
 use crate::sequence;
 use plane::Phases;
@@ -36,16 +36,6 @@ pub struct SixLoops {
 pub struct Ratio {
     pub n: i64,
     pub m: i64,
-}
-
-// n and m of each of the six.
-pub struct SixRatios {
-    pub ag: Ratio,
-    pub bg: Ratio,
-    pub cg: Ratio,
-    pub ab: Ratio,
-    pub bc: Ratio,
-    pub ca: Ratio,
 }
 
 // Whether a loop asserts in each of two zones.
@@ -194,7 +184,7 @@ fn in_zones(z: Phasor, r: i64, r2: i64, l: Loop) -> InZones
 // The six loop bits at reach r and at reach r2, by a good settings record.
 pub fn zone_bits(s: &[u8], r: i64, r2: i64, l: SixLoops) -> ZoneBits
     requires { ⌜ Ranges (now s) × Within mostReach r × Within mostReach r2 × SixInside l ⌝ }
-    ensures { λ x. ⌜ (x .first ≡ loopBits r (ratiosOf (replica (now (s .entry))) l)) × (x .second ≡ loopBits r2 (ratiosOf (replica (now (s .entry))) l)) ⌝ }
+    ensures { λ x. ⌜ (x .first ≡ loopBits (replica (now (s .entry))) r l) × (x .second ≡ loopBits (replica (now (s .entry))) r2 l) ⌝ }
 {
     let z = constants::replica(s);
     let ag = in_zones(z, r, r2, l.ag);

@@ -11,7 +11,7 @@ use Rattle.phasors.specs.Grid.{voltagesOf, localCurrents, current}
 use Rattle.phasors.proofs.Totals.{filled-local}
 use Rattle.differential.specs.Differential.{comparisons, operatingBits}
 use Rattle.differential.proofs.Filled.{filled-comparisons}
-use Rattle.decision.specs.Decision.{rateOf, ratiosAt, assertingBits, overreachingBits, directionAt, findings}
+use Rattle.decision.specs.Decision.{rateOf, loopsAt, assertingBits, overreachingBits, directionAt, findings}
 use Rattle.decision.proofs.findings_in.Statement.{statement}
 use Rattle.decision.proofs.findings_in.Tie as tie
 
@@ -44,11 +44,11 @@ returns c =
     let currents = l .local .ensures ∙ filled-local filled (g .currents .ensures .1) (some n) .0 ∙ ap (localCurrents (rateOf s) w) ends in
     let compared = o .of-phases .ensures .0 ∙ filled-comparisons filled ∙ ap (λ k. comparisons (current (rateOf s) w k) k) ends in
     let phases = b .operating-bits .ensures ∙ ap (operatingBits _ _) compared in
-    let ratios = ap₂ (ratiosAt s) voltages currents in
-    let loops = z .zones .ensures .0 ∙ ap (assertingBits s) ratios in
-    let further = z .zones .ensures .1 ∙ ap (overreachingBits s) ratios in
+    let loops = ap₂ (loopsAt s) voltages currents in
+    let near = z .zones .ensures .0 ∙ ap (assertingBits s) loops in
+    let further = z .zones .ensures .1 ∙ ap (overreachingBits s) loops in
     let direction = c .direction .ensures ∙ ap₂ (directionAt s) voltages currents in
-    (λ k. record { operating = phases k; asserting = loops k; overreaching = further k; direction = direction k; comparisons = compared k }, o .of-phases .ensures .1)
+    (λ k. record { operating = phases k; asserting = near k; overreaching = further k; direction = direction k; comparisons = compared k }, o .of-phases .ensures .1)
 
 pub findings-in-spec : {M : Type 1} → statement M
 findings-in-spec =

@@ -7,9 +7,9 @@ use Rattle.whole.proofs.Machine.{back}
 use Rattle.whole.proofs.Size.{along}
 use Rattle.settings.specs.Fields.{secondReach}
 use Rattle.distance.specs.Constants.{replica}
-use Rattle.distance.specs.Mho.{ratiosOf, loopBits}
+use Rattle.distance.specs.Mho.{loopBits}
 use Rattle.distance.proofs.Sizes.{reach-within, second-reach-within}
-use Rattle.decision.specs.Decision.{ratiosAt, assertingBits}
+use Rattle.decision.specs.Decision.{loopsAt, assertingBits}
 use Rattle.decision.proofs.zones.Statement.{statement}
 use Rattle.decision.proofs.zones.Tie as tie
 
@@ -26,15 +26,15 @@ module _ (c : tie.After-zone-bits) where
   start = c .before .before .before .before .before
 
   pub both :
-      let s = now (start .args .s) in let q = ratiosAt s (start .args .v) (start .args .i) in
-      (c .zone-bits .result .first ≡ assertingBits s q) × (c .zone-bits .result .second ≡ loopBits (pos (secondReach s)) q)
+      let s = now (start .args .s) in let six = loopsAt s (start .args .v) (start .args .i) in
+      (c .zone-bits .result .first ≡ assertingBits s six) × (c .zone-bits .result .second ≡ loopBits (replica s) (pos (secondReach s)) six)
   both =
       let z = replica (now (start .args .s)) in
       let l = c .before .loops .ensures .0 in
       let r2 = c .before .before .second-reach in
       let r = c .before .before .before .reach in
       let e = simp (back (r .result) (r .ok), back (r2 .result) (r2 .ok)) at (c .zone-bits .ensures) in
-      (e .0 ∙ (λ k. loopBits (r .ensures k) (ratiosOf z (l k))), e .1 ∙ (λ k. loopBits (r2 .ensures k) (ratiosOf z (l k))))
+      (e .0 ∙ (λ k. loopBits z (r .ensures k) (l k)), e .1 ∙ (λ k. loopBits z (r2 .ensures k) (l k)))
 
 off : tie.Need-returns
 off c =

@@ -11,7 +11,9 @@ returns c =
     let q = c .before .before in
     let f = q .before .fits in
     let m = q .ratio-of .ensures .0 in
-    ((rw (toZ-ofZ (f .r)) at (c .before .asserts .ensures)) ∙ ap (asserts _) m, (rw (toZ-ofZ (f .r2)) at (c .asserts2 .ensures)) ∙ ap (asserts _) m)
+    let first = simp (toZ-ofZ (f .r), toZ-ofZ (f .r2)) at (c .before .asserts .ensures) in
+    let second = simp (toZ-ofZ (f .r), toZ-ofZ (f .r2)) at (c .asserts2 .ensures) in
+    (first ∙ ap (asserts (q .before .args .r)) m, second ∙ ap (asserts (q .before .args .r2)) m)
 
 pub in-zones-spec : {M : Type 1} → statement M
 in-zones-spec =
