@@ -16,21 +16,27 @@ enum { RETURN_ADDRESS = 8, DEFAULT_WINDOWS = 10000, WINDOWS_TO_COMPARE = 1000 };
 static void same_window(const char *name, int ends) {
   (void)name;
   (void)ends;
-  same(DECIDE, &slices);
-  feed_newest(&slices);
-  same(FEED, &slices);
+  same_decided(&slices);
+  turn_on(&slices);
+  same_decided(&slices);
+}
+
+/* The nth call of each kind, as it is and spoiled. */
+static void same_nth(long n, second_zone zone) {
+  for (which_call which = PROPOSE; which < CALLS; which++) {
+    lend_nth(&slices, which, n, zone);
+    same(which, &slices);
+    spoil(&slices, which);
+    same(which, &slices);
+  }
 }
 
 static void compare(long windows) {
   same_refusals();
+  same_zones();
   for_each_window(same_window);
   for (long n = 0; n < windows; n++)
-    for (which_call which = PROPOSE; which < CALLS; which++) {
-      lend_nth(&slices, which, n);
-      same(which, &slices);
-      spoil(&slices, which);
-      same(which, &slices);
-    }
+    for (second_zone zone = OFF; zone < ZONES; zone++) same_nth(n, zone);
   same_runs(windows);
   print_compared();
 }
@@ -81,12 +87,12 @@ static void time_tables(void) {
 /* Stack */
 
 /* The deepest that a call of this version goes, its return address included, over the sequence of calls as they are and spoiled. */
-static long stack_bytes(int v, which_call which, long windows) {
+static long stack_bytes(int v, which_call which, long windows, second_zone zone) {
   long deepest = 0;
-  lend_nth(&slices, which, 0);
+  lend_nth(&slices, which, 0, zone);
   const uint8_t *top = counted(v, which).stack + RETURN_ADDRESS;
   for (long n = 0; n < 2 * windows; n++) {
-    lend_nth(&slices, which, n / 2);
+    lend_nth(&slices, which, n / 2, zone);
     if (n % 2 == 1) spoil(&slices, which);
     long bytes = top - deepest_written(make_it);
     if (bytes > deepest) deepest = bytes;
@@ -97,9 +103,14 @@ static long stack_bytes(int v, which_call which, long windows) {
 static void stack_table(long windows) {
   printf("\nBytes of stack from the return address to the deepest byte written, the red zone below the stack pointer among them.\n");
   printf("The most of %ld calls, half of them with a missing sample or another byte in the record\n\n", 2 * windows);
-  printf("call        archive  plain -O3\n");
-  for (which_call which = PROPOSE; which < CALLS; which++)
-    printf("%-9s%10ld%11ld\n", call_names[which], stack_bytes(ARCHIVE, which, windows), stack_bytes(PLAIN_O3, which, windows));
+  printf("         %21s%21s\n", "second zone off", "second zone on");
+  printf("call        archive  plain -O3   archive  plain -O3\n");
+  for (which_call which = PROPOSE; which < CALLS; which++) {
+    printf("%-9s", call_names[which]);
+    for (second_zone zone = OFF; zone < ZONES; zone++)
+      printf("%10ld%11ld", stack_bytes(ARCHIVE, which, windows, zone), stack_bytes(PLAIN_O3, which, windows, zone));
+    printf("\n");
+  }
 }
 
 /* The number of windows may be given; or `same`, to compare the answers and no more. */
@@ -113,6 +124,7 @@ int main(int arguments, char **words) {
   compare(windows);
   if (same_only) return 0;
   instruction_tables();
+  second_zone_tables();
   time_tables();
   stack_table(windows);
   fflush(stdout);

@@ -128,7 +128,7 @@ static void entry_table(void) {
   printf("\nThe other calls, instructions of one that is accepted\n\n");
   printf("call            archive     plain -O3   / plain -O3       all / O3\n");
   for (which_call which = PROPOSE; which < DECIDE; which++) {
-    lend_nth(&slices, which, 0);
+    lend_nth(&slices, which, 0, OFF);
     printf("%-9s", call_names[which]);
     print_beside_plain(which);
   }
@@ -157,9 +157,12 @@ static void widen(extent *to, steps s) {
   to->windows++;
 }
 
-static void print_extents(which_call which, const extent *of) {
+/* Of one call, by the ends of the line. */
+typedef extent extents[MOST_ENDS + 1];
+
+static void print_extents(which_call which, second_zone zone, const extent *of) {
   int at = FEWEST_ENDS;
-  printf("\n%s\nends  windows        fewest          most\n", call_names[which]);
+  printf("\n%s, second zone %s\nends  windows        fewest          most\n", call_names[which], zone_names[zone]);
   for (int ends = FEWEST_ENDS; ends <= MOST_ENDS; ends++) {
     printf("%4d%9ld", ends, of[ends].windows);
     print_count(of[ends].fewest);
@@ -170,20 +173,26 @@ static void print_extents(which_call which, const extent *of) {
   printf("The most: %ld, with %d ends.\n", all(of[at].most), at);
 }
 
+static void widen_nth(long n, second_zone zone, extents decide, extents feed) {
+  lend_nth(&slices, DECIDE, n, zone);
+  widen(&decide[ends_of(&slices)], counted(ARCHIVE, DECIDE));
+  feed_newest(&slices);
+  widen(&feed[ends_of(&slices)], counted(ARCHIVE, FEED));
+}
+
 void extent_tables(long windows) {
-  extent decide[MOST_ENDS + 1] = {{0}}, feed[MOST_ENDS + 1] = {{0}};
+  extents decide[ZONES] = {{{0}}}, feed[ZONES] = {{{0}}};
   for (long n = 0; n < windows; n++) {
-    lend_nth(&slices, DECIDE, n);
-    widen(&decide[ends_of(&slices)], counted(ARCHIVE, DECIDE));
-    feed_newest(&slices);
-    widen(&feed[ends_of(&slices)], counted(ARCHIVE, FEED));
+    for (second_zone zone = OFF; zone < ZONES; zone++) widen_nth(n, zone, decide[zone], feed[zone]);
     if ((n + 1) % 500 == 0) fprintf(stderr, "%ld of %ld windows counted\n", n + 1, windows);
   }
   printf("\nThe archive, instructions over %ld windows, extreme and drawn, by extreme and drawn records\n", windows);
-  print_extents(DECIDE, decide);
-  print_extents(FEED, feed);
+  for (second_zone zone = OFF; zone < ZONES; zone++) {
+    print_extents(DECIDE, zone, decide[zone]);
+    print_extents(FEED, zone, feed[zone]);
+  }
   printf("\nThe count is bounded: nothing calls itself, and a loop turns once for each end, phase, frame, sample or byte of a\n");
   printf("record, or once for each bit of one of six widths of the root. How often a loop turns depends on the value of a sample\n");
-  printf("only through that width; besides, it decides some short branches: the pickups and the sign of m. A missing sample adds\n");
-  printf("a search over the samples, after which the call ends.\n");
+  printf("only through that width; besides, it decides some short branches: the pickups and the sign of m. Whether the second zone\n");
+  printf("is on is decided by the record. A missing sample adds a search over the samples, after which the call ends.\n");
 }

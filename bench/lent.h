@@ -10,6 +10,7 @@ enum {
   DECISION = GORSEPETAL_DECISION_LENGTH,
   FEWEST_ENDS = 2,
   MOST_ENDS = 6,
+  LARGEST_REACH = 2000, /* thousandths of the replica */
   BEYOND = 8, /* bytes after each slice, which no call may touch */
 };
 

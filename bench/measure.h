@@ -24,8 +24,9 @@ void print_count(steps s);
 /* The archive's part of another number, rounded up to hundredths: it is never said to be smaller than it is. */
 void print_ratio(long mine, long theirs);
 
-/* How many instructions the calls take, in tables; the most over so many windows. */
+/* How many instructions the calls take, in tables; what the second zone costs; the most over so many windows. */
 void instruction_tables(void);
+void second_zone_tables(void);
 void extent_tables(long windows);
 
 #endif

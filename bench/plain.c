@@ -1,6 +1,6 @@
 /*
-** Document 01, and feeding, as one would write them in C: tables, 64-bit sums, one quantity after another. It is the measure for the
-** library's speed and nothing else: its answers are compared with the library's before anything is counted.
+** Document 01, feeding and the second zone, as one would write them in C: tables, 64-bit sums, one quantity after another. It is the
+** measure for the library's speed and nothing else: its answers are compared with the library's before anything is counted.
 **
 ** It is compiled five times, each time under the name PLAIN: at -O2 and at -O3, and with either root. DOUBLE_ROOT takes the processor's
 ** square root of a double, which is exact here: every number that a root is taken of is below 2^52. Without it the root is a whole-number
@@ -58,7 +58,9 @@ static size_t fault(const uint8_t *r) {
   if (outside(zf, -20000, 20000)) return 20;
   if (outside(zr, -20000, 20000) || zf >= zr) return 22;
   if (outside(unsigned_at(r, 24), 1, 42000)) return 24;
-  for (size_t at = 26; at < RECORD; at++)
+  int64_t second_reach = unsigned_at(r, 26);
+  if (second_reach != 0 && outside(second_reach, unsigned_at(r, 10), 2000)) return 26;
+  for (size_t at = 28; at < RECORD; at++)
     if (r[at] != 0) return at;
   return RECORD;
 }
@@ -161,23 +163,37 @@ static int direction(const uint8_t *r, const phasor *v, const phasor *i) {
 
 /* Mho loops, from the same */
 
-static int asserts(phasor z, int64_t reach, phasor v, phasor i, phasor vp) {
-  int64_t n = dot(v, vp), m = dot(times(z, i), vp);
-  return m > 0 && 1000000 * n <= reach * m;
+/* The loops that assert in each zone: AG, BG, CG from bit 0 on, AB, BC, CA from bit 3 on. */
+typedef struct {
+  int first, second;
+} zones;
+
+/* What they are set to. The second reach is 0 where its zone is off. */
+typedef struct {
+  phasor z;
+  int64_t reach, second_reach;
+} mho;
+
+static int asserts(int64_t n, int64_t m, int64_t reach) { return m > 0 && 1000000 * n <= reach * m; }
+
+/* One loop: both zones have the same n and m. */
+static void put_loop(zones *to, size_t bit, const mho *set, phasor v, phasor i, phasor vp) {
+  int64_t n = dot(v, vp), m = dot(times(set->z, i), vp);
+  to->first |= asserts(n, m, set->reach) << bit;
+  to->second |= (set->second_reach != 0 && asserts(n, m, set->second_reach)) << bit;
 }
 
-/* AG, BG, CG from bit 0 on, AB, BC, CA from bit 3 on. */
-static int loops(const uint8_t *r, const phasor *v, const phasor *i) {
-  phasor z = {unsigned_at(r, 6), unsigned_at(r, 8)}, k = {unsigned_at(r, 12), signed_at(r, 14)};
-  int64_t reach = unsigned_at(r, 10);
+static zones loops(const uint8_t *r, const phasor *v, const phasor *i) {
+  mho set = {{unsigned_at(r, 6), unsigned_at(r, 8)}, unsigned_at(r, 10), unsigned_at(r, 26)};
+  phasor k = {unsigned_at(r, 12), signed_at(r, 14)};
   phasor p = sequence(v, A, A2), ap = over_16384(times(A, p)), a2p = over_16384(times(A2, p));
   phasor exact = times(k, plus(plus(i[0], i[1]), i[2])), k_product = {rounded_thousandths(exact.re), rounded_thousandths(exact.im)};
   const phasor ground[PHASES] = {p, a2p, ap}, phase[PHASES] = {ap, p, a2p};
-  int bits = 0;
+  zones bits = {0, 0};
   for (size_t x = 0; x < PHASES; x++) {
     size_t y = (x + 1) % PHASES;
-    bits |= asserts(z, reach, v[x], plus(i[x], k_product), ground[x]) << x;
-    bits |= asserts(z, reach, minus(v[x], v[y]), minus(i[x], i[y]), minus_j(phase[x])) << (PHASES + x);
+    put_loop(&bits, x, &set, v[x], plus(i[x], k_product), ground[x]);
+    put_loop(&bits, PHASES + x, &set, minus(v[x], v[y]), minus(i[x], i[y]), minus_j(phase[x]));
   }
   return bits;
 }
@@ -242,12 +258,14 @@ static void decision(const uint8_t *r, const int16_t *window, uint8_t *out) {
     for (size_t e = 0; e < ends; e++) currents[p][e] = measure(window, channels, PHASES + PHASES * e + p);
     local[p] = currents[p][0];
   }
-  int phases = differential(r, currents, out + 8, out + 20), asserting = loops(r, v, local), way = direction(r, v, local);
-  out[0] = phases != 0 || (way == FORWARD && asserting != 0);
+  int phases = differential(r, currents, out + 8, out + 20), way = direction(r, v, local);
+  zones asserting = loops(r, v, local);
+  out[0] = phases != 0 || (way == FORWARD && asserting.first != 0);
   out[1] = (uint8_t)phases;
-  out[2] = (uint8_t)asserting;
+  out[2] = (uint8_t)asserting.first;
   out[3] = (uint8_t)way;
-  memset(out + 4, 0, 4);
+  out[4] = (uint8_t)asserting.second;
+  memset(out + 5, 0, 3);
 }
 
 /* The answer of decide and of feed on a window of samples, upper byte first. It is written out in both, which at -O3 makes the

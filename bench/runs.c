@@ -14,6 +14,9 @@ typedef struct {
   int frame;   /* that comes next */
 } run;
 
+/* Whether the second zone of a record in the sequence is on: so that a relay goes from off to on, and back. */
+static second_zone zone_of(long record) { return record / 2 % ZONES; }
+
 /* Makes the call with all versions, and leaves what it left to the next one. */
 static uint64_t go_on(run *r, which_call call) {
   same(call, &r->relay);
@@ -44,7 +47,10 @@ static void feed_next(run *r) {
 /* Two entries of the same record again or of another line's, the second one sometimes mistyped. */
 static void enter(run *r, int another) {
   lent window = r->window;
-  if (another) lend_nth(&window, DECIDE, ++r->record);
+  if (another) {
+    r->record++;
+    lend_nth(&window, DECIDE, r->record, zone_of(r->record));
+  }
   lend_in(r, window.state, RECORD);
   go_on(r, PROPOSE);
   if (drawn(0, 2) == 0) r->relay.in[drawn(0, RECORD - 1)] ^= (uint8_t)drawn(1, 255);
@@ -63,7 +69,7 @@ static void call_another(run *r) {
 /* The relay comes with a record in force and an empty window, or with a window of any bytes. */
 static void run_nth(long n) {
   run r = {.record = n};
-  lend_nth(&r.window, DECIDE, n);
+  lend_nth(&r.window, DECIDE, n, zone_of(n));
   lend_fresh(&r.relay);
   memcpy(r.relay.state, r.window.state, RECORD);
   for (int at = GORSEPETAL_STATE_AT_COUNT; n % 2 == 1 && at < STATE; at++) r.relay.state[at] = (uint8_t)drawn(0, 255);

@@ -4,6 +4,7 @@
 #include <string.h>
 
 #include "same.h"
+#include "seen.h"
 #include "windows.h"
 
 static long answered[GORSEPETAL_NO_RELAY + 1]; /* calls compared, by the number given back */
@@ -29,6 +30,14 @@ void same(which_call call, const lent *slices) {
     exit(1);
   }
   answered[GORSEPETAL_NUMBER(answer)]++;
+  see(call, answer, &wanted);
+}
+
+void same_decided(const lent *window) {
+  lent feed = *window;
+  feed_newest(&feed);
+  same(DECIDE, window);
+  same(FEED, &feed);
 }
 
 /* The call as it is, and with a state of other lengths. */
@@ -58,20 +67,24 @@ static void same_with_other_rooms(which_call call, lent *slices) {
   }
 }
 
-/* Every field at the edges of every range, and the spare bytes. */
+/* Every field at the edges of every range, and the spare bytes, beside a second reach that is off, that is on, and that is below the first,
+** which is 850. */
 static void propose_refusals(void) {
-  static const int edges[] = {0,    1,    2,    6,    7,     44,    45,    100,   101,   256,    257,    300,  500,  501,  998, 999,
-                              1000, 1001, 2000, 2001, 20000, 20001, 32767, 42000, 42001, -20001, -20000, -501, -500, -300, -1};
+  static const int edges[] = {0,    1,    2,    6,    7,    44,    45,    100,   101,   256,   257,    300,    500,  501,  849,  850, 998,
+                              999,  1000, 1001, 2000, 2001, 20000, 20001, 32767, 42000, 42001, -20001, -20000, -501, -500, -300, -1};
+  static const int second_reaches[] = {0, 1200, 849};
   for (int at = 0; at < RECORD; at += 2)
-    for (size_t k = 0; k < sizeof edges / sizeof *edges; k++) {
-      lent slices;
-      lend_nth(&slices, PROPOSE, 0);
-      good_record(slices.in, FEWEST_ENDS);
-      put(slices.in, at, edges[k]);
-      good_record(slices.state, MOST_ENDS);
-      good_record(slices.state + RECORD, MOST_ENDS);
-      same_with_other_entries(PROPOSE, &slices);
-    }
+    for (size_t k = 0; k < sizeof edges / sizeof *edges; k++)
+      for (size_t second = 0; second < sizeof second_reaches / sizeof *second_reaches; second++) {
+        lent slices;
+        lend_nth(&slices, PROPOSE, 0, OFF);
+        good_record(slices.in, FEWEST_ENDS);
+        put(slices.in, GORSEPETAL_AT_SECOND_REACH, second_reaches[second]);
+        put(slices.in, at, edges[k]);
+        good_record(slices.state, MOST_ENDS);
+        good_record(slices.state + RECORD, MOST_ENDS);
+        same_with_other_entries(PROPOSE, &slices);
+      }
 }
 
 /* Another byte at each place, in the entry and in the pending record, and nothing pending. */
@@ -79,7 +92,7 @@ static void confirm_refusals(void) {
   for (int at = 0; at < RECORD; at++)
     for (int where = 0; where < 3; where++) {
       lent slices;
-      lend_nth(&slices, CONFIRM, 0);
+      lend_nth(&slices, CONFIRM, 0, OFF);
       if (where == 0) slices.in[at] ^= 0x80;
       if (where == 1) slices.state[RECORD + at] ^= 0x80;
       if (where == 2) memset(slices.state + RECORD, 0, RECORD);
@@ -92,7 +105,7 @@ static void confirm_refusals(void) {
 static void read_back_refusals(void) {
   lent slices;
   for (int at = 0; at < RECORD; at++) {
-    lend_nth(&slices, READ_BACK, 0);
+    lend_nth(&slices, READ_BACK, 0, OFF);
     same_with_other_rooms(READ_BACK, &slices);
     slices.state[at] ^= 0x80;
     same_with_other_rooms(READ_BACK, &slices);
@@ -143,9 +156,7 @@ static void missing_samples(void) {
       lend_quiet(&slices, ends);
       miss(&slices, last_sample(&slices));
       miss(&slices, place);
-      same(DECIDE, &slices);
-      feed_newest(&slices);
-      same(FEED, &slices);
+      same_decided(&slices);
     }
   }
 }
@@ -157,6 +168,39 @@ void same_refusals(void) {
   decide_refusals();
   feed_refusals();
   missing_samples();
+}
+
+/* Proposes the record that decides in this window. */
+static void same_proposed(const lent *window) {
+  lent slices;
+  lend_fresh(&slices);
+  memcpy(slices.in, window->state, RECORD);
+  slices.in_len = RECORD;
+  same(PROPOSE, &slices);
+}
+
+/* Each pair of reaches about the edges of the loops, and about those of the ranges, by this record. */
+static void same_reaches(lent *window) {
+  static const int reaches[] = {0, 1, 249, 250, 251, 256, 499, 500, 501, 999, 1000, 1001, 1999, 2000, 2001, 32767, -1};
+  enum { REACHES = sizeof reaches / sizeof *reaches };
+  for (int pair = 0; pair < REACHES * REACHES; pair++) {
+    put(window->state, GORSEPETAL_AT_REACH, reaches[pair / REACHES]);
+    put(window->state, GORSEPETAL_AT_SECOND_REACH, reaches[pair % REACHES]);
+    same_proposed(window);
+    same_decided(window);
+  }
+}
+
+void same_zones(void) {
+  static const int limits[][2] = {{600, 700}, {-300, 300}, {-300, 700}}; /* forward, reverse, none */
+  for (int phase = 0; phase < 3; phase++)
+    for (size_t way = 0; way < sizeof limits / sizeof *limits; way++) {
+      lent slices;
+      lend_edge(&slices, FEWEST_ENDS, phase);
+      put(slices.state, GORSEPETAL_AT_FORWARD_LIMIT, limits[way][0]);
+      put(slices.state, GORSEPETAL_AT_REVERSE_LIMIT, limits[way][1]);
+      same_reaches(&slices);
+    }
 }
 
 void print_compared(void) {
@@ -171,4 +215,5 @@ void print_compared(void) {
       before = ", ";
     }
   printf(".\n");
+  print_seen();
 }

@@ -7,13 +7,20 @@
 ** it; else the program ends with a message. */
 void same(which_call call, const lent *slices);
 
+/* The same for a window: for decide, and for feed of its newest frame. */
+void same_decided(const lent *window);
+
 /* The same for every refusal of the calls, at every place, and for calls with several things wrong at once. */
 void same_refusals(void);
+
+/* The same about the edges of both zones. */
+void same_zones(void);
 
 /* The same for so many runs of calls: each goes on with the state that the one before left. */
 void same_runs(long runs);
 
-/* Prints how many calls were compared, and how many of them were refused with each number. */
+/* Prints how many calls were compared, and how many of them were refused with each number; and what they showed of the second zone, as
+** seen.h has it. */
 void print_compared(void);
 
 #endif

@@ -23,7 +23,7 @@ int drawn(int low, int high) {
 /* Records */
 
 enum { DOCUMENTS, LARGEST_SETTINGS, SMALLEST_SETTINGS, RECORDS };
-enum { D_REAL = 7, D_IMAGINARY, FORWARD_LIMIT, REVERSE_LIMIT, FIELDS = 12 }; /* after the ends, up to the spare bytes */
+enum { D_REAL = 7, D_IMAGINARY, FORWARD_LIMIT, REVERSE_LIMIT, FIELDS = 12 }; /* after the ends, up to the second reach */
 
 static const int SETTINGS[RECORDS][FIELDS] = {
     [DOCUMENTS] = {15, 100, 0, 1000, 850, 667, 0, 0, 1000, -300, 300, 50},
@@ -40,6 +40,21 @@ static void put_record(uint8_t *record, int ends, const int *settings) {
 }
 
 void good_record(uint8_t *record, int ends) { put_record(record, ends, SETTINGS[DOCUMENTS]); }
+
+/* The second zone */
+
+enum { USUAL_SECOND_REACH = 1200 };
+
+const char *const zone_names[ZONES] = {"off", "on"};
+
+void turn_on(lent *window) { put(window->state, GORSEPETAL_AT_SECOND_REACH, USUAL_SECOND_REACH); }
+
+/* Nothing is drawn for it, so that the windows are the same with it on and off. */
+static void put_nth_second_reach(uint8_t *record, long n) {
+  int first = record[GORSEPETAL_AT_REACH] << 8 | record[GORSEPETAL_AT_REACH + 1];
+  const int by_turns[] = {first, LARGEST_REACH, (first + LARGEST_REACH) / 2};
+  put(record, GORSEPETAL_AT_SECOND_REACH, by_turns[n % 3]);
+}
 
 /* Each field anywhere in its range; D is put on its circle and the reverse limit above the forward one. */
 static void put_drawn_record(uint8_t *record, int ends) {
@@ -108,6 +123,18 @@ void lend_fault(lent *to, int ends) {
   for (int end = 1; end <= ends; end++) wave(to, current(end, 0), 0, -20000);
 }
 
+/* One sample makes a whole phasor, as in document 01's hand checks: with phase 0, Va is 500, and Ia of -1000 j and Ib of -500 j flow in at
+** end 1 and out at end 2. */
+void lend_edge(lent *to, int ends, int phase) {
+  int next = (phase + 1) % PHASES;
+  lend_dead(to, ends);
+  put_sample(to, 0, phase, 4000);
+  for (int end = 1; end <= 2; end++) {
+    put_sample(to, 4, current(end, phase), end == 1 ? 8000 : -8000);
+    put_sample(to, 4, current(end, next), end == 1 ? 4000 : -4000);
+  }
+}
+
 /* Of a feed that is lent: where the number with this index in its 16 frames stands. The oldest frame in the state is not among them. */
 static uint8_t *fed_number(lent *feed, int index) {
   int channels = channels_of(feed), newest = (FRAMES - 1) * channels;
@@ -172,10 +199,11 @@ static void put_nth_window(lent *to, long n) {
       put_drawn_channel(to, channel);
 }
 
-void lend_nth(lent *to, which_call call, long n) {
+void lend_nth(lent *to, which_call call, long n, second_zone zone) {
   uint8_t record[RECORD];
   draw = (uint32_t)n * 2654435761u;
   put_nth_record(record, n);
+  if (zone == ON) put_nth_second_reach(record, n);
   lend_fresh(to);
   memset(to->state + GORSEPETAL_STATE_AT_COUNT, 0x5B, STATE - GORSEPETAL_STATE_AT_COUNT); /* a window to be left alone, or emptied */
   if (call == PROPOSE || call == CONFIRM) {

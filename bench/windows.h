@@ -1,4 +1,4 @@
-/* The calls that are compared and counted, ready to be made: three windows that a line sees, and a sequence of calls of all kinds. */
+/* The calls that are compared and counted, ready to be made: windows that a line sees, and a sequence of calls of all kinds. */
 #ifndef WINDOWS_H
 #define WINDOWS_H
 #include "lent.h"
@@ -6,7 +6,7 @@
 /* A fresh relay, nothing to read, and room for 32 bytes. */
 void lend_fresh(lent *to);
 
-/* The record of document 01, "Window program", with so many ends. */
+/* The record of document 01, "Window program", with so many ends. Its second zone is off. */
 void good_record(uint8_t *record, int ends);
 
 /* Decide, by that record. Quiet: a balanced load flows in at end 1 and out at the others, and nothing trips. Fault: phase a has a fault to
@@ -14,6 +14,17 @@ void good_record(uint8_t *record, int ends);
 void lend_quiet(lent *to, int ends);
 void lend_fault(lent *to, int ends);
 void lend_dead(lent *to, int ends);
+
+/* Decide, by that record: loops that have their edge at a whole reach. With phase 0, AG asserts from a reach of 250 on, CA from 500 on and
+** AB from 1000 on; with 1 and 2 by turn. Here the direction is reverse, and it is forward by limits above 500. No phase operates. */
+void lend_edge(lent *to, int ends, int phase);
+
+/* The second zone: off, as in every record from before it, or on. */
+typedef enum { OFF, ON, ZONES } second_zone;
+extern const char *const zone_names[ZONES];
+
+/* Turns it on in the record in force, at 1200 thousandths of the replica. */
+void turn_on(lent *window);
 
 /* Of a window that is lent: the ends by the record in force, the index of the last sample, and how a sample is marked as missing. */
 int ends_of(const lent *window);
@@ -27,8 +38,9 @@ void feed_newest(lent *window);
 int drawn(int low, int high);
 
 /* The nth call of a sequence that is the same in every run, every one accepted: extreme windows by extreme records first, then drawn ones;
-** 2 to 6 ends by turns. Entries and read-back have the nth record. */
-void lend_nth(lent *to, which_call call, long n);
+** 2 to 6 ends by turns. Entries and read-back have the nth record. If the second zone is on, its reach is by turns as small as it may be,
+** as large, and halfway; all else is as if it were off. */
+void lend_nth(lent *to, which_call call, long n, second_zone zone);
 
 /* Changes one thing in the call that was lent last, so that it is mostly refused: a sample is missing, or a byte of a record is another. */
 void spoil(lent *slices, which_call call);

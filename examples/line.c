@@ -1,6 +1,6 @@
 /*
 ** A line as in a substation: three ends, 110 kV, 50 Hz. The network is solved by symmetrical components, its volts and amperes go through
-** transformers and converters to windows, and its ohms and amperess become a settings record by the manual's formulas. Each case says
+** transformers and converters to windows, and its ohms and amperes become a settings record by the manual's formulas. Each case says
 ** what to expect and why, and the relay's answer is compared with it: the program ends with 1 if one differs. Run it with:
 ** sh examples/run_line
 **
@@ -174,6 +174,7 @@ static int number_at(const uint8_t *bytes, int at) {
 #define REACH 80.0         /* percent of the line; ends 2 and 3 are equally far, so it ends before both */
 #define FORWARD_LIMIT -0.6 /* secondary ohms: about half of what a fault ahead measures */
 #define REVERSE_LIMIT 3.0  /* and half of what one behind measures: check_limits has both */
+#define SECOND_REACH 175.0 /* percent of the line; for a lamp, so beyond where any fault on it seems to lie: check_second_reach has that */
 
 static void field(uint8_t *record, int shown, int at, const char *name, double value, const char *unit, double factor) {
   int setting = rounded(value * factor);
@@ -199,6 +200,7 @@ static void fill(uint8_t r[GORSEPETAL_RECORD_LENGTH], double cv_over_ci, int sho
   field(r, shown, GORSEPETAL_AT_FORWARD_LIMIT, "forward limit zf", FORWARD_LIMIT, "ohm", ohm);
   field(r, shown, GORSEPETAL_AT_REVERSE_LIMIT, "reverse limit zr", REVERSE_LIMIT, "ohm", ohm);
   field(r, shown, GORSEPETAL_AT_NEGATIVE_SEQUENCE_PICKUP, "pickup of 3I2", PICKUP_3I2, "A", ampere);
+  field(r, shown, GORSEPETAL_AT_SECOND_REACH, "second reach r2", SECOND_REACH, "percent", 10);
 }
 
 /* Both entries, each in a buffer filled anew, and what is then in force; 1 if a call is refused. */
@@ -212,10 +214,11 @@ static int enter(uint8_t *state, double cv_over_ci) {
   uint64_t confirmed = gorsepetal_confirm(state, GORSEPETAL_STATE_LENGTH, second, sizeof second);
   printf("\n  propose answers %d, confirm answers %d\n", (int)proposed, (int)confirmed);
   if (gorsepetal_read_back(state, GORSEPETAL_STATE_LENGTH, back, sizeof back) != GORSEPETAL_DONE) return 1;
-  double ohm = 1000 * CV / CI, reach = number_at(back, GORSEPETAL_AT_REACH) / 10.0; /* percent of Z */
+  double ohm = 1000 * CV / CI;
   Complex z = {number_at(back, GORSEPETAL_AT_REPLICA_REAL) / ohm, number_at(back, GORSEPETAL_AT_REPLICA_IMAGINARY) / ohm};
-  printf("  read back: Z is %.2f + j%.2f ohm to the relay, and zone 1 reaches %.0f percent of the line\n\n", z.re, z.im,
-         reach * size(z) / size(secondary(line_impedance(POSITIVE))));
+  double percent = size(z) / size(secondary(line_impedance(POSITIVE))) / 10; /* of the line, for a thousandth of Z */
+  printf("  read back: Z is %.2f + j%.2f ohm to the relay; zone 1 reaches %.0f percent of the line, the second zone %.0f\n\n", z.re, z.im,
+         percent * number_at(back, GORSEPETAL_AT_REACH), percent * number_at(back, GORSEPETAL_AT_SECOND_REACH));
   return proposed != GORSEPETAL_DONE || confirmed != GORSEPETAL_DONE;
 }
 
@@ -231,6 +234,29 @@ static int check_limits(void) {
   return !(ahead < FORWARD_LIMIT && REVERSE_LIMIT < behind);
 }
 
+/* Where a fault at a far end's busbar seems to lie, in percent of the line, by one sequence. The current of the other far end comes in at
+** the tee and is not end 1's. The manual takes the weakest source behind end 1; here it has one strength. */
+static double seems_at(int sequence, int far, int other) {
+  static const double FROM_TEE[ENDS] = {TEE, 1 - TEE, SPUR};
+  Complex z = line_impedance(sequence);
+  double infeed = size(plus(scaled(z, FROM_TEE[0]), SOURCE[sequence][0])) / size(plus(scaled(z, FROM_TEE[other]), SOURCE[sequence][other]));
+  return 100 * (FROM_TEE[0] + FROM_TEE[far] * (1 + infeed));
+}
+
+/* The second zone covers each far end, with a fifth to spare; 1 if not. */
+static int check_second_reach(void) {
+  double at_2[] = {seems_at(POSITIVE, 1, 2), seems_at(ZERO, 1, 2)}, at_3[] = {seems_at(POSITIVE, 2, 1), seems_at(ZERO, 2, 1)}, farthest = 0;
+  for (int s = 0; s < 2; s++) {
+    if (at_2[s] > farthest) farthest = at_2[s];
+    if (at_3[s] > farthest) farthest = at_3[s];
+  }
+  printf("The second reach is for a lamp, which has to light for every fault on the line. Beyond the tee the other far end feeds in,\n"
+         "so a fault seems farther than it is. By the positive and the zero sequence one at end 2 seems to lie at %.0f and %.0f percent,\n"
+         "and one at end 3 at %.0f and %.0f; a ground loop sees it between the two. With a fifth to spare that is %.0f percent of the\n"
+         "line, and the second zone covers it.\n\n", at_2[0], at_2[1], at_3[0], at_3[1], 1.2 * farthest);
+  return SECOND_REACH < 1.2 * farthest;
+}
+
 /* ---- The cases ---- */
 
 typedef struct {
@@ -241,7 +267,7 @@ typedef struct {
   int unscaled;      /* end 3's samples are handed over as its converter gave them */
   int lowest;        /* what the converters clip at; 0 for -32767 */
   int refused_at;    /* the index of the sample for which decide refuses, or 0; then no decision is expected */
-  int trip, phases, loops, direction;
+  int trip, phases, loops, direction, second; /* the last one: the loops of the second zone */
   const char *why;
 } Case;
 
@@ -253,39 +279,46 @@ enum { AG = GORSEPETAL_LOOP_AG, FORWARD = GORSEPETAL_DIRECTION_FORWARD, REVERSE 
 #define GROUND(part) .kind = A_TO_GROUND, .place = part
 #define AT_95 .title = "Phase a to ground on the line, 95 percent from end 1", GROUND(0.95)
 #define BEYOND .title = "Phase a to ground behind end 2's busbar, 800 m out on another line", GROUND(1.02)
+#define BALANCED_AT(part) .kind = BALANCED, .place = part
 
 static const Case CASES[] = {
   {.title = "Load", .kind = LOAD, .place = 0.3,
-   .why = "what flows in at end 1 flows out at ends 2 and 3; the load's impedance is far outside the mho"},
+   .why = "what flows in at end 1 flows out at ends 2 and 3; the load's impedance is far outside both zones"},
   {.title = "Phase a to ground on the line, 30 percent from end 1", GROUND(0.3), .trip = 1, .phases = A, .loops = AG, .direction = FORWARD,
+   .second = OF_A,
    .why = "all ends feed the fault; none feeds in between end 1 and the fault, so AG measures its true place"},
-  {.title = "Phase a to ground on the line, 80 percent from end 1", GROUND(0.8), .trip = 1, .phases = A, .direction = FORWARD,
-   .why = "beyond the tee end 3 feeds in, so AG sees the fault farther than it lies and is quiet; the differential trips"},
-  {AT_95, .trip = 1, .phases = A, .direction = FORWARD,
-   .why = "outside zone 1, as it was meant; the differential covers the whole line"},
-  {BEYOND, .direction = FORWARD,
-   .why = "a fault ahead but not on the line: all that flows in flows out at end 2, and AG does not reach so far"},
+  {.title = "Phase a to ground on the line, 80 percent from end 1", GROUND(0.8), .trip = 1, .phases = A, .direction = FORWARD, .second = AG,
+   .why = "beyond the tee end 3 feeds in, so AG sees the fault farther than it lies, in the second zone alone; the differential trips"},
+  {AT_95, .trip = 1, .phases = A, .direction = FORWARD, .second = AG,
+   .why = "outside zone 1, as it was meant; the differential covers the whole line, and so does the second zone"},
+  {BEYOND, .direction = FORWARD, .second = AG,
+   .why = "a fault ahead but not on the line: all that flows in flows out at end 2. The second zone overreaches: a lamp, and no trip"},
+  {.title = "Phase a to ground behind end 2's busbar, 4 km out", GROUND(1.1), .direction = FORWARD,
+   .why = "ends 2 and 3 feed it too, so it seems far beyond its true 110 percent: outside the second zone, and the lamp is dark"},
   {.title = "Phase a to ground behind the relay, 800 m out on another line of end 1", GROUND(-0.02), .direction = REVERSE,
-   .why = "phase a's current leaves the line at end 1, so AG's m is negative and Z2 is positive"},
-  {.title = "Balanced three-phase fault on the line, 30 percent from end 1", .kind = BALANCED, .place = 0.3,
-   .trip = 1, .phases = ABC, .loops = ALL_LOOPS,
+   .why = "phase a's current leaves the line at end 1, so AG's m is negative in both zones, and Z2 is positive"},
+  {.title = "Balanced three-phase fault on the line, 30 percent from end 1", BALANCED_AT(0.3),
+   .trip = 1, .phases = ABC, .loops = ALL_LOOPS, .second = ALL_LOOPS,
    .why = "no negative sequence, so direction none: all loops assert, but distance cannot trip; the differential does"},
+  {.title = "Balanced three-phase fault behind end 2's busbar, 800 m out on another line", BALANCED_AT(1.02), .second = ALL_LOOPS,
+   .why = "no direction here either, and the second zone asks for none: the lamp is lit"},
   {.title = "Load, with the current transformer of end 2 connected the wrong way round", .kind = LOAD, .place = 0.3, .reversed = 2,
    .trip = 1, .phases = ABC,
    .why = "the line is sound; the differential is twice the current of end 2: read it under load before the trip is wired"},
   {.title = "The fault behind end 2's busbar again, but end 3's samples not scaled", GROUND(1.02), .unscaled = 1, .direction = FORWARD,
+   .second = AG,
    .why = "end 3 counts double, so its current is left over in the differential; it uses up part of the slope, and does not trip yet"},
   {.title = "Phase a to ground at 1 percent, so heavy that the converter clips: at -32767", GROUND(0.01),
-   .lowest = -GORSEPETAL_LARGEST_SAMPLE, .trip = 1, .phases = A, .loops = OF_A, .direction = FORWARD,
+   .lowest = -GORSEPETAL_LARGEST_SAMPLE, .trip = 1, .phases = A, .loops = OF_A, .direction = FORWARD, .second = OF_A,
    .why = "clipped samples still show a large current; the loops AB and CA have it too"},
   {.title = "The same, but the converter clips at -32768", GROUND(0.01), .lowest = GORSEPETAL_MISSING, .refused_at = 135,
    .why = "-32768 means that a sample is missing: no decision, just when the fault is worst. Clip at -32767"},
 };
 
 static const Case WRONG_UNIT[] = {
-  {AT_95, .trip = 1, .phases = A, .loops = AG, .direction = FORWARD,
-   .why = "the reach is twice what was meant: AG asserts for a fault that zone 1 should leave alone"},
-  {BEYOND, .trip = 1, .loops = AG, .direction = FORWARD,
+  {AT_95, .trip = 1, .phases = A, .loops = AG, .direction = FORWARD, .second = OF_A,
+   .why = "both reaches are twice what was meant: AG asserts for a fault that zone 1 should leave alone"},
+  {BEYOND, .trip = 1, .loops = AG, .direction = FORWARD, .second = OF_A,
    .why = "and here the relay trips the line for a fault that is not on it"},
 };
 
@@ -324,19 +357,20 @@ static void describe(const Line *line) {
 }
 
 static void print_bits(const char *what, int bits, const char *const names[]) {
-  printf("%s %d", what, bits);
+  printf(", %s %d", what, bits);
   for (int b = 0, some = 0; bits >> b; b++)
     if (bits >> b & 1) printf("%s%s", some++ ? " " : " (", names[b]);
-  printf(bits ? "), " : ", ");
+  if (bits) printf(")");
 }
 
-static void print_decision(int trip, int phases, int loops, int direction) {
+static void print_decision(int trip, int phases, int loops, int direction, int second) {
   static const char *const PHASES[8] = {"A", "B", "C"}, *const LOOPS[8] = {"AG", "BG", "CG", "AB", "BC", "CA"};
   static const char *const DIRECTIONS[] = {"none", "forward", "reverse", "?"};
-  printf("trip %d, ", trip);
+  printf("trip %d", trip);
   print_bits("phases", phases, PHASES);
   print_bits("loops", loops, LOOPS);
-  printf("direction %d (%s)", direction, DIRECTIONS[direction < 3 ? direction : 3]);
+  printf(", direction %d (%s)", direction, DIRECTIONS[direction < 3 ? direction : 3]);
+  print_bits("second zone", second, LOOPS);
 }
 
 /* Sixty-fourths of a count, 32 bits, upper byte first, as primary amperes. */
@@ -352,14 +386,15 @@ static double differential(const Case *c, const Line *line) {
   return size(sum);
 }
 
-/* The decision; 1 if its first four bytes are not as expected, or its differential is not the model's, give or take 2 A. */
+/* The decision; 1 if its first five bytes are not as expected, or its differential is not the model's, give or take 2 A. */
 static int compare(const Case *c, const uint8_t *out, double model, int clipped) {
   int trip = out[GORSEPETAL_DECISION_AT_TRIP], phases = out[GORSEPETAL_DECISION_AT_PHASES];
   int loops = out[GORSEPETAL_DECISION_AT_LOOPS], direction = out[GORSEPETAL_DECISION_AT_DIRECTION];
+  int second = out[GORSEPETAL_DECISION_AT_SECOND_ZONE];
   double s = primary(out + GORSEPETAL_DECISION_AT_DIFFERENTIAL_A), u = primary(out + GORSEPETAL_DECISION_AT_RESTRAINT_A);
-  print_decision(trip, phases, loops, direction);
+  print_decision(trip, phases, loops, direction, second);
   printf("\n  phase a:  differential %.0f A primary (model %.0f), restraint %.0f A: %.0f percent", s, model, u, 100 * s / u);
-  return c->refused_at || trip != c->trip || phases != c->phases || loops != c->loops || direction != c->direction ||
+  return c->refused_at || trip != c->trip || phases != c->phases || loops != c->loops || direction != c->direction || second != c->second ||
          (!clipped && (s - model > 2 || model - s > 2));
 }
 
@@ -376,7 +411,7 @@ static int run(const uint8_t *state, const Case *c) {
   if (c->refused_at)
     printf("refusal %d at %d", GORSEPETAL_MISSING_SAMPLE, c->refused_at);
   else
-    print_decision(c->trip, c->phases, c->loops, c->direction);
+    print_decision(c->trip, c->phases, c->loops, c->direction, c->second);
   printf("\n  because:  %s\n  relay:    ", c->why);
   if (answer == GORSEPETAL_DONE)
     fault = compare(c, out, differential(c, &line), clipped);
@@ -398,7 +433,7 @@ int main(void) {
          "Current transformers: 300 to 1 A at ends 1 and 2, 150 to 1 A at end 3. A count is %.2f A primary at end 1 and %.2f A at\n"
          "end 3, so the firmware multiplies end 3's samples by 150/300.\n\n", CT[0] / CI, CT[2] / CI);
   printf("The record, from secondary values. cv is %.0f counts per volt, ci %.0f counts per ampere.\n", CV, CI);
-  faults += enter(state, CV / CI) + check_limits();
+  faults += enter(state, CV / CI) + check_limits() + check_second_reach();
   for (int i = 0; i < cases; i++) faults += run(state, &CASES[i]);
   printf("The wrong unit. The desk entered thousandths of an ohm and forgot that cv over ci is %.1f, in both entries alike.\n"
          "Both are good records, so no call can see it.\n", CV / CI);

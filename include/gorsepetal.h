@@ -5,8 +5,9 @@
 **
 ** Contents: what the library is / in short / lent slices / the relay's state / what comes back /
 ** two entries / settings record / units / tests at the panel / what each field should be /
-** conventions / a line of three ends, worked out / window / frame by frame / decision / rules /
-** a decision, worked out / outside the library / limits / constants / the five calls.
+** conventions / a line of three ends, worked out / window / frame by frame / decision /
+** the second zone / rules / a decision, worked out / outside the library / limits / constants /
+** the five calls.
 **
 ** WHAT THE LIBRARY IS
 **
@@ -90,6 +91,12 @@
 ** frame is kept. Or read the record back with the old library, and propose and confirm it in a
 ** fresh relay.
 **
+** Version 2 had the state of this version and no second zone: offsets 26 and 27 of its records are
+** zero. Such a state serves as it is: the second zone is off, and the relay decides as before. Only
+** a record that version 2 counted as absent for these two bytes may be good now. The way back is
+** another matter: by version 2 a record with a second reach counts as absent, and nothing is in
+** force. So before going back, propose and confirm the record with a second reach of 0.
+**
 ** WHAT COMES BACK
 **
 ** Each call gives back one number, 256 times the place plus the number of the table.
@@ -113,7 +120,8 @@
 ** Each number is given back in its own condition and in no other. These calls give no other number;
 ** 11 to 16 are not in use. Where several conditions hold, the first in the call's order of checks
 ** is given. In the place of 4 an index counts the window's numbers from 0; in those of 6 and 8 an
-** offset counts the record's bytes.
+** offset counts the record's bytes. For 6 it is the first byte of a field, or a spare byte; for 8
+** it may be any byte.
 **
 ** TWO ENTRIES
 **
@@ -159,15 +167,17 @@
 **   20  FORWARD_LIMIT             forward limit zf, signed      0.001 V/I       -20000  20000
 **   22  REVERSE_LIMIT             reverse limit zr, signed      0.001 V/I       -20000  20000
 **   24  NEGATIVE_SEQUENCE_PICKUP  pickup of 3I2                 counts of peak  1       42000
-**   26  -                         six spare bytes               -               0       0
+**   26  SECOND_REACH              second reach r2               0.001 of Z      0 or r  2000
+**   28  -                         four spare bytes              -               0       0
 **
 ** V/I is one voltage count per current count. It is NOT an ohm: the next section has the way from
 ** ohms.
 **
 ** The squares of the two parts of D sum to 998000 at least and 1002000 at most; an error is
-** reported at 18. zf is below zr; an error is reported at 22. The fields are checked in order of
-** offset, and each of these two rules right after the range at its offset. A spare byte that is not
-** zero is reported at its own offset, 26 to 31.
+** reported at 18. zf is below zr; an error is reported at 22. r2 is 0, which switches the second
+** zone off, or from r to 2000, r itself too; every error of it is reported at 26. The fields are
+** checked in order of offset, and the rules at 18 and 22 right after the range there. A spare byte
+** that is not zero is reported at its own offset, 28 to 31.
 **
 ** UNITS
 **
@@ -180,7 +190,7 @@
 **
 **   Z, zf, zr     thousandths of V/I, a voltage count per current count
 **                 setting = 1000 x ohms(secondary) x cv / ci
-**   r             thousandths of Z: 800 reaches as far as 0.8 Z
+**   r, r2         thousandths of Z: 800 reaches as far as 0.8 Z, and 1500 as far as 1.5 Z
 **   k             1000 x (Z0 - Z1) / (3 Z1), a ratio: cv and ci have no part in it
 **   D             1000 x (cos, sin) of the line angle, the angle of Z1
 **   pickups       counts of peak = 1.4142 x ampere(secondary, effective) x ci
@@ -192,11 +202,13 @@
 **   ohms(secondary)   = ohms(primary) x CT ratio / VT ratio
 **
 ** Settings are whole numbers. Round to the nearest. Where a bound has to be kept, round to its safe
-** side: Z and r down, and a pickup up if the current must not be lower.
+** side: Z and r down, r2 up, and a pickup up if the current must not be lower.
 **
-** The mho rule uses the product r x Z and nothing else of the two. Where Z1 comes to more than
-** 20000, enter half of it as Z and twice the r: 1640 with Z1 / 2 is 820 with Z1. A zf or zr beyond
-** 20000 is entered as 20000, with its sign.
+** The mho rule uses the products r x Z and r2 x Z and nothing else of the three. Where Z1 comes to
+** more than 20000, enter half of it as Z and twice the r: 1640 with Z1 / 2 is 820 with Z1. But r2
+** ends at 2000, which with Z1 / 2 is 1000 with Z1 and no overreach. With 0.6 Z1 it is 1200 with Z1.
+** Where r2 would come to more than 2000, enter a larger Z, and a smaller r and r2. A zf or zr
+** beyond 20000 is entered as 20000, with its sign.
 **
 ** WARNING. No range can tell one unit from another. With cv / ci = 1/2 a replica entered in
 ** thousandths of an ohm is twice as large as it should be: propose and confirm both answer 0, and
@@ -208,11 +220,14 @@
 **
 ** With a test set at end 1, the settings in force, and the other ends sending zeros: three voltages
 ** of magnitude E at their usual angles, but Va smaller; current Ia on phase a alone. All in
-** secondary volts, amperes and ohms, with Z1 and k of the line and r as a fraction. The
-** differential trips throughout: look at bytes 2 and 3 of the decision, not at byte 0.
+** secondary volts, amperes and ohms, with Z1 and k of the line, and r and r2 as fractions. The
+** differential trips throughout: look at bytes 2, 3 and 4 of the decision, not at byte 0.
 **
 **   - Reach: Ia behind Va by the angle of Z1 (1 + k), and Va = f x r x |Z1 (1 + k)| x Ia.
 **     GORSEPETAL_LOOP_AG has to be set at f = 0.95 and not at f = 1.05.
+**   - Second reach, if it is not 0: the same with r2 for r. In byte 4 GORSEPETAL_LOOP_AG has to be
+**     set at f = 0.95 and not at f = 1.05. In byte 2 it has to be clear at both, if 0.95 r2 is
+**     above r. The lamp has to do as byte 4 does.
 **   - Forward limit: Ia behind Va by the line angle, and Va = E - f x |zf| x Ia. The direction has
 **     to be forward at f = 1.05 and none at f = 0.95.
 **   - Reverse limit: the current turned round, and Va = E - f x zr x Ia. The direction has to be
@@ -267,6 +282,21 @@
 **        above the unbalance of the largest load; below 3I2 of the smallest fault that has to be
 **        told apart. 3I2 is three times the negative sequence current: a fault from one phase to
 **        ground with current I in that phase and none in the others has a 3I2 of I.
+**   r2   0 if the panel has no lamp for it: the second zone is then off. Otherwise it has to
+**        OVERREACH: to see every solid fault on the line, and so some beyond its ends. It is a lamp
+**        only, and trips nothing: THE SECOND ZONE says what it shows. On a line of two ends r2 is
+**        usually 1200 to 1500. With more ends Z is that to the NEAREST, and r2 has to cover the one
+**        that seems FARTHEST. A fault there is seen at
+**             Zs = Zt + Zx (1 + Io / I1)
+**        where Zt leads to the tee and Zx from there to that end, I1 is the current of end 1 and Io
+**        that of the ends that are neither. Take Io / I1 at its largest: the weakest source behind
+**        end 1, the strongest at the others, and the sequence, positive or zero, in which it is
+**        larger. Then r2 is 1200 x |Zs| / |Z| or more. The 200 above 1000 are for the errors of
+**        transformers and of line data. Where that is above 2000, see UNITS.
+**        The lamp must not light under load. All six loops see a load at V / I, and they assert if
+**        this is not above r2 x |Z| x cos(line angle - load angle). Here r2 is a fraction, and the
+**        load angle is that by which the current is behind the voltage. So V / I has to be larger
+**        than this at the largest load and the lowest voltage.
 **
 ** CONVENTIONS
 **
@@ -307,13 +337,20 @@
 **   smallest Zb, of the source behind: 0.9 ohm        zf   = -0.45 ohm = -1000 x 0.45 x 0.5 = -225
 **   smallest Za, of what lies ahead: 2.6 ohm          zr   = +1.3 ohm = 1000 x 1.3 x 0.5 = 650
 **   pickup of 3I2 0.1 A                               28   (1.4142 x 0.1 x 200 = 28.28)
+**   Zs of the far end that seems farthest:
+**   1.0 + j 5.0 ohm
+**   the second zone covers 120 percent of it          r2   = 1200 x 5.099 / 4.079 = 1500
 **
 ** As 32 bytes, two a field:
 **
-**   0003 001E 0039 0190 07D0 0320 0274 001A 00C4 03D5 FF1F 028A 001C 0000 0000 0000
+**   0003 001E 0039 0190 07D0 0320 0274 001A 00C4 03D5 FF1F 028A 001C 05DC 0000 0000
 **
 ** In thousandths of an ohm Z would have been 800 + j 4000: a good record too, and a reach of 160
 ** percent of the line.
+**
+** The lamp under load: along the line angle the second zone ends at 1.5 x 4.079 = 6.12 ohm. At a
+** load angle of 30 degrees it ends at 6.12 x cos(78.69 - 30) = 4.04 ohm. So at 50 V the lamp stays
+** dark up to 12.3 A.
 **
 ** WINDOW
 **
@@ -398,13 +435,46 @@
 **   1          the phases whose differential operates, added up: a=1, b=2, c=4
 **   2          the loops that assert, added up: AG 1, BG 2, CG 4, AB 8, BC 16, CA 32
 **   3          direction: 0 none, 1 forward, 2 reverse
-**   4 to 7     zero
+**   4          the loops that assert in the second zone, added up as in byte 2; 0 where r2 is 0
+**   5 to 7     zero
 **   8 to 11    U of phase a, 32 bits, upper byte first
 **   12 to 15   U of phase b
 **   16 to 19   U of phase c
 **   20 to 23   floor of the root of 4096 s of phase a, 32 bits, upper byte first
 **   24 to 27   the same of phase b
 **   28 to 31   the same of phase c
+**
+** THE SECOND ZONE
+**
+** Byte 4 has the six loops of byte 2 at the second reach, r2. It is for a lamp on the panel. It
+** does not trip: byte 0 and all other bytes are the same at every r2. It has no timer.
+**
+**   trip(out[GORSEPETAL_DECISION_AT_TRIP]);
+**   lamp(out[GORSEPETAL_DECISION_AT_SECOND_ZONE] != 0);
+**
+** r2 is not below r. So where the second zone is on, a loop that asserts in byte 2 asserts in
+** byte 4 too:
+**
+**   byte 2   byte 4   what the loops see
+**   0        0        no fault within r2; or, if r2 is 0, none within r
+**   0        not 0    a fault beyond r and within r2: towards a far end, or beyond it
+**   not 0    not 0    a fault within r
+**   not 0    0        a fault within r; r2 is 0, and the second zone is off
+**
+** It goes by no direction: that is byte 3. So it shows a balanced three-phase fault too, and, under
+** load, a voltage that is lost to a blown fuse. Of a fault BEHIND the relay it shows this:
+**
+**   - The loops of the phases that have the fault, if it is solid, do not assert: their m is
+**     negative.
+**   - A ground loop of another phase may, since E makes its m positive. On a line of two ends, with
+**     Z = Z1, its own k and little load, it sees the fault at about 3 Z or farther, and no r2
+**     reaches that. With more ends, strong sources beyond a near tee can bring it within r2.
+**   - A balanced fault close behind, with some resistance, may assert all six in both zones if
+**     heavy load was flowing in from the far ends. Its direction is none, so distance does not
+**     trip.
+**
+** A lamp that has to stay dark in the second case is lit only if byte 3 is not
+** GORSEPETAL_DIRECTION_REVERSE. In the third nothing here can tell.
 **
 ** RULES
 **
@@ -442,6 +512,7 @@
 **   CG     Vc        Ic + E    aP              CA     Vc - Va   Ic - Ia   -j a2P
 **
 **   n = Re(V Vp*), m = Re(Z I Vp*); a loop asserts exactly when m > 0 and 1000000 n <= r m
+**   in the second zone, exactly when r2 > 0 and m > 0 and 1000000 n <= r2 m
 **
 ** Differential of a phase, over the phasors I1 to IN of its currents, one of each end:
 **
@@ -449,7 +520,8 @@
 **   U = the sum over the ends of the smallest whole number whose square is at least 4096 |I|^2
 **   the phase operates exactly when s >= pickup^2 and 40960000 s > (K U)^2
 **
-** Trip: 1 exactly when a phase operates, or the direction is forward and a loop asserts.
+** Trip: 1 exactly when a phase operates, or the direction is forward and a loop asserts. The second
+** zone has no part in it.
 **
 ** A DECISION, WORKED OUT
 **
@@ -464,15 +536,30 @@
 **   D 3I2 = (600350, -7730)   T = -600350000, below -225 x 360200 = -81045000: forward
 **   E = (84420, -367660) by 1000 = (84, -368)
 **   AG: I = (194, -958)   n = 5000000   m = 9968000000
-**       1000000 n = 5000000000000 <= 800 m = 7974400000000: asserts
+**       1000000 n = 5000000000000 <= 800 m = 7974400000000: asserts, and so in the second zone too
 **   AB: n = 12990000   m = 5259920000: 12990000000000 > 4207936000000, does not assert
+**       12990000000000 > 1500 m = 7889880000000: nor in the second zone
 **   phase a: s = 150^2 + 790^2 = 646600, above 57^2; U = 38411 + 13054 = 51465
 **       40960000 s = 26484736000000 > (30 x 51465)^2 = 2383781602500: operates
 **   root of 4096 s: 51463
 **
 ** The other loops do not assert, and phases b and c have s = U = 0. The 32 bytes:
 **
-**   01 01 01 01 00 00 00 00 00 00 C9 09 00 00 00 00 00 00 00 00 00 00 C9 07 00 00 00 00 00 00 00 00
+**   01 01 01 01 01 00 00 00 00 00 C9 09 00 00 00 00 00 00 00 00 00 00 C9 07 00 00 00 00 00 00 00 00
+**
+** Then a fault beyond the line: Va (1800, 0), Ia of end 2 (-110, 590), and all else as above. What
+** flows in at end 1 flows out at end 2.
+**
+**   3V1 = (5800, 0)   3V2 = (-200, 0)   T = -120070000, below -81045000: forward
+**   AG: n = 10440000   m = 11562880000
+**       10440000000000 > 800 m = 9250304000000: does not assert
+**       10440000000000 <= 1500 m = 17344320000000: asserts in the second zone
+**   phase a: s = 0; U = 38411 + 38411 = 76822
+**
+** The direction is forward, and no loop but AG asserts in the second zone. There is no trip. The
+** lamp is lit:
+**
+**   00 00 00 01 01 00 00 00 00 01 2C 16 00 00 00 00 00 00 00 00 00 00 00 00 00 00 00 00 00 00 00 00
 **
 ** OUTSIDE THE LIBRARY
 **
@@ -484,10 +571,13 @@
 **
 ** What a decision cannot tell:
 **   - A balanced three-phase fault has no negative sequence, so its direction is none and distance
-**     cannot trip on it. The differential can.
+**     cannot trip on it. The differential can, and the loops show it in both zones.
 **   - Where the polarising quantity Vp is zero, as in a fault next to the relay with all three
-**     voltages gone, no loop asserts. A voltage that is lost to a blown fuse looks like a fault to
-**     the loops; it trips only if the direction is forward too, which takes a 3I2 at its pickup.
+**     voltages gone, no loop asserts, in either zone. A voltage that is lost to a blown fuse looks
+**     like a fault to the loops; it trips only if the direction is forward too, which takes a 3I2
+**     at its pickup. The lamp asks for no direction, so load alone can light it then.
+**   - The second zone cannot tell a fault near the far end of the line from one beyond it, and it
+**     asserts for some faults behind the relay: THE SECOND ZONE says for which.
 **   - Clipped samples are not detected. A converter that clips at -32768 turns a heavy fault into
 **     refusal 4, a missing sample, and there is no decision just then. It has to clip at -32767, at
 **     every end.
@@ -497,7 +587,7 @@
 **   - One window is one cycle, and one decision is of one window. A window that lies across the
 **     beginning of a fault is part load and part fault. Feed decides 16 times a cycle, and holds
 **     nothing from one decision to the next. How many decisions in a row to trust, and how long to
-**     hold a trip, is the firmware's matter.
+**     hold a trip or keep the lamp lit, is the firmware's matter.
 **   - A frame that feed was never handed, or was handed twice, is not detected. The waves in the
 **     window then have a step, and the phasors are wrong until it has passed, 15 frames later.
 **
@@ -525,8 +615,8 @@ extern "C" {
 #endif
 
 /* The version of this file and of the archive: text, and 10000 major + 100 minor + patch. */
-#define GORSEPETAL_VERSION "2.0.0"
-#define GORSEPETAL_VERSION_NUMBER 20000
+#define GORSEPETAL_VERSION "3.0.0"
+#define GORSEPETAL_VERSION_NUMBER 30000
 
 /* Lengths in bytes: a relay's state, a settings record and a decision. */
 #define GORSEPETAL_STATE_LENGTH 738
@@ -567,12 +657,14 @@ extern "C" {
 #define GORSEPETAL_AT_FORWARD_LIMIT 20
 #define GORSEPETAL_AT_REVERSE_LIMIT 22
 #define GORSEPETAL_AT_NEGATIVE_SEQUENCE_PICKUP 24
+#define GORSEPETAL_AT_SECOND_REACH 26
 
 /* The offset of each part of a decision. */
 #define GORSEPETAL_DECISION_AT_TRIP 0
 #define GORSEPETAL_DECISION_AT_PHASES 1
 #define GORSEPETAL_DECISION_AT_LOOPS 2
 #define GORSEPETAL_DECISION_AT_DIRECTION 3
+#define GORSEPETAL_DECISION_AT_SECOND_ZONE 4
 #define GORSEPETAL_DECISION_AT_RESTRAINT_A 8
 #define GORSEPETAL_DECISION_AT_RESTRAINT_B 12
 #define GORSEPETAL_DECISION_AT_RESTRAINT_C 16
@@ -580,7 +672,7 @@ extern "C" {
 #define GORSEPETAL_DECISION_AT_DIFFERENTIAL_B 24
 #define GORSEPETAL_DECISION_AT_DIFFERENTIAL_C 28
 
-/* The bits of a decision's phases and loops. */
+/* The bits of a decision's phases, and of its loops in either zone. */
 #define GORSEPETAL_PHASE_A 1
 #define GORSEPETAL_PHASE_B 2
 #define GORSEPETAL_PHASE_C 4

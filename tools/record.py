@@ -1,11 +1,12 @@
-"""The settings record of document 01: its table, its 32 bytes as numbers and back, and what is wrong with a record.
+"""The settings record of document 01 with the second reach of document 02: its table, its 32 bytes as numbers and back, and what is
+wrong with a record.
 
 tests/desk/check.py holds the table to the independent model's, offset by offset.
 """
 from typing import NamedTuple, Optional
 
 LENGTH = 32
-SPARE = range(26, 32)
+SPARE = range(28, 32)
 SQUARES = range(998000, 1002000 + 1)
 
 
@@ -22,6 +23,7 @@ class Setting(NamedTuple):
     unit: str       # of the numbers in the record
     also: str       # another unit that a text may give it in, or none
     parts: tuple[Part, ...]
+    may_be_off: bool = False    # it is off where its number is 0
 
 
 IMPEDANCE = 'thousandths of a voltage count per current count'
@@ -36,6 +38,7 @@ SETTINGS = (
     Setting('forward limit', IMPEDANCE, 'ohm', (Part(20, -20000, 20000),)),
     Setting('reverse limit', IMPEDANCE, 'ohm', (Part(22, -20000, 20000),)),
     Setting('pickup of 3I2', 'counts', 'A', (Part(24, 1, 42000),)),
+    Setting('second reach', 'thousandths of the replica', 'percent of the replica', (Part(26, 0, 2000),), may_be_off=True),
 )
 
 Numbers = dict[str, tuple[int, ...]]  # by the setting's name
@@ -57,7 +60,8 @@ def out_of_range(setting: Setting, numbers: tuple[int, ...]) -> Optional[Wrong]:
     for part, number, which in zip(setting.parts, numbers, (' real part', ' imaginary part')):
         if not part.low <= number <= part.high:
             which = which if len(setting.parts) == 2 else ''
-            return Wrong(part.at, setting.name, f'{setting.name}{which} {number}, wanted {part.low} to {part.high}')
+            low = 'off or 1' if setting.may_be_off else part.low
+            return Wrong(part.at, setting.name, f'{setting.name}{which} {number}, wanted {low} to {part.high}')
     return None
 
 
@@ -78,9 +82,17 @@ def limits_wrong(numbers: Numbers) -> Optional[Wrong]:
     return Wrong(22, 'reverse limit', f'forward limit {forward}, reverse limit {reverse}, wanted forward below reverse')
 
 
+def reaches_wrong(numbers: Numbers) -> Optional[Wrong]:
+    """The second reach is off, or not below the first."""
+    (first,), (second,) = numbers['reach'], numbers['second reach']
+    if second == 0 or first <= second:
+        return None
+    return Wrong(26, 'second reach', f'reach {first}, second reach {second}, wanted off or the second not below the first')
+
+
 def first_wrong(numbers: Numbers) -> Optional[Wrong]:
     """The first fault in the order of offsets. A rule over two numbers comes when both ranges have passed."""
-    over_two = {'line angle': angle_wrong, 'reverse limit': limits_wrong}
+    over_two = {'line angle': angle_wrong, 'reverse limit': limits_wrong, 'second reach': reaches_wrong}
     for setting in SETTINGS:
         wrong = out_of_range(setting, numbers[setting.name])
         if wrong is None and setting.name in over_two:

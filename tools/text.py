@@ -9,6 +9,7 @@ read() take that text, and also numbers from the secondary side, which need the 
     line zero sequence 2.4 + j 12.0 ohm  gives k
     differential pickup 0.2 A            effective value, secondary
 
+The second reach is a number or the word 'off'. A text from before it was there has no line for it: then it is off.
 '#' begins a remark. The digits may be left out; if they are there, they must be those of the number.
 """
 import cmath
@@ -21,11 +22,12 @@ from record import SETTINGS, Numbers, Setting, first_wrong
 # ---- Digits as they are said -----------------------------------------------
 
 SAID = dict(zip('0123456789.+-', 'zero one two three four five six seven eight nine point plus minus'.split()))
+OFF = 'off'
 
 
 def spoken(written: str) -> str:
-    """-300 is 'minus three zero zero', 667 - j 40 is 'six six seven minus j four zero'."""
-    return ' '.join(word if word in ('j', 'at') else ' '.join(SAID[sign] for sign in word) for word in written.split())
+    """-300 is 'minus three zero zero', 667 - j 40 is 'six six seven minus j four zero', and off is 'off'."""
+    return ' '.join(word if word in ('j', 'at', OFF) else ' '.join(SAID[sign] for sign in word) for word in written.split())
 
 
 # ---- Lines, and the quantities on them -------------------------------------
@@ -54,6 +56,11 @@ class Quantity(NamedTuple):
     unit: str
 
 
+def off(line: int) -> Quantity:
+    """In place of a number: the setting is off."""
+    return Quantity(line, OFF, OFF, 0j, 1, '')
+
+
 def lines(text: str) -> list[Line]:
     """The lines that say something."""
     found = []
@@ -64,14 +71,24 @@ def lines(text: str) -> list[Line]:
     return found
 
 
+MAY_BE_OFF = [setting.name for setting in SETTINGS if setting.may_be_off]
 SIZE = r'[0-9]{1,9}(?:\.[0-9]{1,9})?'
 QUANTITY = re.compile(rf'(?P<real>-?{SIZE})(?: (?P<sign>[+-]) j (?P<imaginary>{SIZE}))?'
                       rf'(?P<unit>(?: \S+)*?)(?: at (?P<angle>-?{SIZE}))?')
 
 
+def check_digits(line: Line, written: str) -> None:
+    """Refuses digits that are not those of the number."""
+    if line.digits not in (None, spoken(written)):
+        raise Fault(line.number, f"{written} is '{spoken(written)}', not '{line.digits}'")
+
+
 def quantity(line: Line, name: str) -> Quantity:
     """What a line gives after the name."""
     words = line.words[len(name.split()):]
+    if words == [OFF] and name in MAY_BE_OFF:
+        check_digits(line, OFF)
+        return off(line.number)
     found = QUANTITY.fullmatch(' '.join(words))
     if not found:
         says = f"'{words[0]}' after '{name}' is no number" if words else f"'{name}' has no number"
@@ -84,8 +101,7 @@ def quantity(line: Line, name: str) -> Quantity:
         written, value = f'{real} {sign} j {imaginary}', complex(float(real), float(sign + imaginary))
     if angle:
         written, value = f'{real} at {angle}', cmath.rect(float(real), math.radians(float(angle)))
-    if line.digits not in (None, spoken(written)):
-        raise Fault(line.number, f"{written} is '{spoken(written)}', not '{line.digits}'")
+    check_digits(line, written)
     return Quantity(line.number, ' '.join(words), written, value, 2 if sign or angle else 1, unit.strip())
 
 
@@ -168,12 +184,17 @@ def scale(given: dict[str, Quantity]) -> Scale:
 
 
 def direct(setting: Setting, given: Quantity, counts: Scale) -> complex:
-    """A setting that is given by its own name, in the record's units."""
+    """A setting that is given by its own name, in the record's units. Off is said by its word, and by no number that comes to 0."""
+    if given.written == OFF:
+        return given.value
     units = (setting.unit, setting.also) if setting.also else (setting.unit,)
     only(given, setting.name, 1 if given.unit == 'degrees' else len(setting.parts), *units)
     if given.unit == 'degrees':
         return cmath.rect(1000, math.radians(given.value.real))
-    return given.value * counts.factor(given)
+    value = given.value * counts.factor(given)
+    if setting.may_be_off and nearest(value.real) == 0:
+        raise Fault(given.line, f"'{given.text}': {setting.name} 0 is off, wanted '{OFF}' if it is meant")
+    return value
 
 
 def of_line(given: dict[str, Quantity], counts: Scale) -> dict[str, complex]:
@@ -213,9 +234,11 @@ def whole(setting: Setting, value: complex, given: Quantity, rounded: list[str])
 
 
 def source(setting: Setting, given: dict[str, Quantity], last: int) -> Quantity:
-    """The line that gives a setting: its own, or one of the line's impedances, and not both."""
+    """The line that gives a setting: its own, or one of the line's impedances, and not both. What may be off is off without one."""
     through = {'replica': 'line', 'line angle': 'line', 'k': 'line zero sequence'}.get(setting.name)
     both = [given[name] for name in (setting.name, through) if name in given]
+    if not both and setting.may_be_off:
+        return off(last)
     if not both:
         raise Fault(last, f"the settings end, and '{setting.name}' is missing")
     if len(both) == 2:
@@ -230,7 +253,7 @@ def read(given: dict[str, Quantity], last: int) -> Entered:
     derived, numbers, rounded, origin = of_line(given, counts), {}, [], {}
     for setting in SETTINGS:
         origin[setting.name] = by = source(setting, given, last)
-        value = direct(setting, by, counts) if setting.name in given else derived[setting.name]
+        value = derived[setting.name] if setting.name in derived else direct(setting, by, counts)
         numbers[setting.name] = whole(setting, value, by, rounded)
     wrong = first_wrong(numbers)
     if wrong:
@@ -245,6 +268,9 @@ def write(numbers: Numbers) -> str:
     said = []
     for setting in SETTINGS:
         real, *imaginary = numbers[setting.name]
+        if setting.may_be_off and real == 0:
+            said.append(f'{setting.name} {OFF}\n')
+            continue
         written = str(real) + ''.join(f' {"-" if part < 0 else "+"} j {abs(part)}' for part in imaginary)
         said.append(' '.join(f'{setting.name} {written} {setting.unit}'.split()) + f', {spoken(written)}\n')
     return ''.join(said)

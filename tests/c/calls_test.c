@@ -5,7 +5,7 @@
 
 int main(void) {
   set_up();
-  int count = run_cases(entry_cases) + run_cases(decide_cases) + run_cases(feed_cases);
+  int count = run_cases(entry_cases) + run_cases(decide_cases) + run_cases(feed_cases) + run_cases(second_zone_cases);
   printf("C test: %d cases, %d checks, %d failed\n", count, checks, faults);
   return faults != 0;
 }

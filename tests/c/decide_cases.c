@@ -84,12 +84,6 @@ static void room_to_decide(void) {
   }
 }
 
-/* A channel of a window of two ends with exactly this phasor, in counts: Va, Vb, Vc are 0 to 2, the currents 3 to 5 and 6 to 8. */
-static void phasor(uint8_t *window, int channel, int re, int im) {
-  put(window, 2 * channel, 8 * re);
-  put(window, 2 * (9 * 4 + channel), -8 * im);
-}
-
 /* 100 counts into the line at end 1, 40 out of it at end 2, on each phase in turn: U is 64 * 100 + 64 * 40 = 8960, s is
 ** 60 * 60 = 3600, the root of 4096 * 3600 is 64 * 60 = 3840. 15 * 8960 is below 100 * 3840, and 50 * 8960 is not. */
 static void paper_mill(void) {
@@ -129,22 +123,6 @@ static void fault_in_front(void) {
     lend_state(record, zeros);
     check("decide", decide(window, WINDOW, DECISION), GORSEPETAL_DONE);
     out_is("decision", wanted);
-  }
-}
-
-/* A fault of phase x to ground, or of the two others to each other, at half of the replica. The current of end 1 leaves at end 2; for a
-** fault behind the relay it flows the other way. */
-static void fault_on(uint8_t *window, int x, int to_ground, int sign) {
-  /* Of x and the two phases that follow it: the voltage and the current of end 1. */
-  static const int ground[3][4] = {{1000, 0, 0, -1000}, {-1000, -1732, 0, 0}, {-1000, 1732, 0, 0}};
-  static const int phases[3][4] = {{2000, 0, 0, 0}, {-1000, -500, -1000, 0}, {-1000, 500, 1000, 0}};
-  memset(window, 0, WINDOW);
-  for (int k = 0; k < 3; k++) {
-    const int *of = to_ground ? ground[k] : phases[k];
-    int at = (x + k) % 3;
-    phasor(window, at, of[0], of[1]);
-    phasor(window, 3 + at, sign * of[2], sign * of[3]);
-    phasor(window, 6 + at, -sign * of[2], -sign * of[3]);
   }
 }
 

@@ -107,6 +107,27 @@ static void guards_kept(const char *what, const struct lent *slice) {
   check_bytes(what, slice->all + GUARD + slice->length, guard, sizeof slice->all - GUARD - slice->length);
 }
 
+/* Windows */
+
+void phasor(uint8_t *window, int channel, int re, int im) {
+  put(window, 2 * channel, 8 * re);
+  put(window, 2 * (9 * 4 + channel), -8 * im);
+}
+
+void fault_on(uint8_t *window, int x, int to_ground, int sign) {
+  /* Of x and the two phases that follow it: the voltage and the current of end 1. */
+  static const int ground[3][4] = {{1000, 0, 0, -1000}, {-1000, -1732, 0, 0}, {-1000, 1732, 0, 0}};
+  static const int phases[3][4] = {{2000, 0, 0, 0}, {-1000, -500, -1000, 0}, {-1000, 500, 1000, 0}};
+  memset(window, 0, WINDOW);
+  for (int k = 0; k < 3; k++) {
+    const int *of = to_ground ? ground[k] : phases[k];
+    int at = (x + k) % 3;
+    phasor(window, at, of[0], of[1]);
+    phasor(window, 3 + at, sign * of[2], sign * of[3]);
+    phasor(window, 6 + at, -sign * of[2], -sign * of[3]);
+  }
+}
+
 /* Calls */
 
 static uint64_t enter(uint64_t (*call)(uint8_t *, size_t, const uint8_t *, size_t), const uint8_t *bytes, size_t length) {

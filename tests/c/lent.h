@@ -39,7 +39,7 @@ struct test_case {
   const char *name;
   void (*run)(void);
 };
-extern const struct test_case entry_cases[], decide_cases[], feed_cases[];
+extern const struct test_case entry_cases[], decide_cases[], feed_cases[], second_zone_cases[];
 
 /* Runs the cases of a table; gives back how many. */
 int run_cases(const struct test_case *cases);
@@ -55,6 +55,13 @@ uint64_t refused(uint64_t number, uint64_t place);
 /* A relay with these two records and some window, or a slice of any bytes in its place. */
 void lend_state(const uint8_t *in_force, const uint8_t *pending);
 void lend(struct lent *slice, const uint8_t *bytes, size_t length);
+
+/* A channel of a window of two ends with exactly this phasor, in counts: Va, Vb, Vc are 0 to 2, the currents 3 to 5 and 6 to 8. */
+void phasor(uint8_t *window, int channel, int re, int im);
+
+/* A window with a fault of phase x to ground, or of the two others to each other, at half of the replica. The current of end 1 leaves at
+** end 2; with sign -1, for a fault behind the relay, it flows the other way. */
+void fault_on(uint8_t *window, int x, int to_ground, int sign);
 
 /* What the state has to be. */
 void state_is(const uint8_t *in_force, const uint8_t *pending, const uint8_t *window);

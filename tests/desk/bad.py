@@ -2,11 +2,13 @@
 from typing import Iterator, NamedTuple
 
 IMPEDANCE = 'thousandths of a voltage count per current count'
+OF_REPLICA = 'thousandths of the replica'
+# A text from before the second reach: it has no line for it.
 SETTINGS = f'''ends 2
 slope 15 percent, one five
 differential pickup 100 counts, one zero zero
 replica 400 + j 2000 {IMPEDANCE}
-reach 850 thousandths of the replica
+reach 850 {OF_REPLICA}
 k 667 - j 40 thousandths
 line angle 158 + j 987 thousandths
 forward limit -300 {IMPEDANCE}, minus three zero zero
@@ -15,10 +17,11 @@ pickup of 3I2 50 counts
 '''
 COUNTS = 'counts per volt 100\ncounts per ampere 200\n'
 NUMBER = 'wanted digits, nine at most before the point and after it'
-IN_ORDER = ('ends', 'slope', 'differential pickup', 'replica', 'reach', 'k', 'line angle', 'forward limit', 'reverse limit',
-            'pickup of 3I2')
+NEEDED = ('ends', 'slope', 'differential pickup', 'replica', 'reach', 'k', 'line angle', 'forward limit', 'reverse limit',
+          'pickup of 3I2')
+IN_ORDER = (*NEEDED, 'second reach')
 NAMES = ('counts per ampere, counts per volt, differential pickup, ends, forward limit, k, line, line angle, line zero sequence, '
-         'pickup of 3I2, reach, replica, reverse limit, slope')
+         'pickup of 3I2, reach, replica, reverse limit, second reach, slope')
 
 
 class Bad(NamedTuple):
@@ -89,15 +92,50 @@ def in_place() -> Iterator[Bad]:
 
 
 def whole_texts() -> Iterator[Bad]:
-    """A setting twice, each setting missing, nothing at all, a window where only settings are wanted."""
+    """A setting twice, each setting missing that is needed, nothing at all, a window where only settings are wanted."""
     twice = "line 11: 'slope' again, it stands on line 2"
     yield Bad('record', SETTINGS + 'slope 50 percent\n', twice)
     yield Bad('record', SETTINGS + 'slope 15 percent\n', twice)
-    for number, (line, name) in enumerate(zip(SETTINGS.splitlines(), IN_ORDER, strict=True), 1):
+    for number, (line, name) in enumerate(zip(SETTINGS.splitlines(), NEEDED, strict=True), 1):
         yield Bad('record', SETTINGS.replace(line, '# left out'),
                   f"line {10 if number < 10 else 9}: the settings end, and '{name}' is missing")
     yield Bad('record', '', "line 1: the settings end, and 'ends' is missing")
     yield Bad('record', SETTINGS + 'window quiet\n', f"line 11: 'window quiet' is no setting, wanted one of: {NAMES}")
+
+
+# Each is line 11, after SETTINGS, in which the reach is 850.
+SECOND_REACHES = {
+    f'second reach 849 {OF_REPLICA}':
+        f"'849 {OF_REPLICA}': reach 850, second reach 849, wanted off or the second not below the first",
+    'second reach 84.9 percent of the replica':
+        "'84.9 percent of the replica': reach 850, second reach 849, wanted off or the second not below the first",
+    f'second reach 2001 {OF_REPLICA}': f"'2001 {OF_REPLICA}': second reach 2001, wanted off or 1 to 2000",
+    f'second reach -1 {OF_REPLICA}': f"'-1 {OF_REPLICA}': second reach -1, wanted off or 1 to 2000",
+    f'second reach 0 {OF_REPLICA}': f"'0 {OF_REPLICA}': second reach 0 is off, wanted 'off' if it is meant",
+    'second reach 0.04 percent of the replica':
+        "'0.04 percent of the replica': second reach 0 is off, wanted 'off' if it is meant",
+    'second reach off, zero': "off is 'off', not 'zero'",
+    f'second reach 1200 {OF_REPLICA}, one two zero': "1200 is 'one two zero zero', not 'one two zero'",
+    f'second reach off {OF_REPLICA}': f"'off' after 'second reach' is no number, {NUMBER}",
+    'second reach on': f"'on' after 'second reach' is no number, {NUMBER}",
+    'second reach': f"'second reach' has no number, {NUMBER}",
+    'second reach 1200': f"second reach 1200 has no unit, wanted '{OF_REPLICA}' or 'percent of the replica'",
+    'second reach 3 ohm': f"'ohm' is no unit of second reach, wanted '{OF_REPLICA}' or 'percent of the replica'",
+    f'second reach 1200 + j 3 {OF_REPLICA}': f"'1200 + j 3 {OF_REPLICA}': second reach is one number",
+    'second 1200': f"'second 1200' is no setting, wanted one of: {NAMES}",
+}
+
+
+def second_reaches() -> Iterator[Bad]:
+    """What can be wrong with the second reach, and that no other setting can be off."""
+    for line, error in SECOND_REACHES.items():
+        yield Bad('record', f'{SETTINGS}{line}\n', f'line 11: {error}')
+    yield Bad('record', f'{SETTINGS}second reach off\nsecond reach off\n', "line 12: 'second reach' again, it stands on line 11")
+    yield Bad('record', SETTINGS.replace(f'reach 850 {OF_REPLICA}', 'reach off'), f"line 5: 'off' after 'reach' is no number, {NUMBER}")
+    yield Bad('record', SETTINGS.replace('reach 850', 'reach 1201') + f'second reach 1200 {OF_REPLICA}\n',
+              f"line 11: '1200 {OF_REPLICA}': reach 1201, second reach 1200, wanted off or the second not below the first")
+    yield Bad('make', f'{SETTINGS}confirmation second reach 849 {OF_REPLICA}\n',
+              f"line 11: '849 {OF_REPLICA}': reach 850, second reach 849, wanted off or the second not below the first")
 
 
 def secondary() -> Iterator[Bad]:
@@ -133,6 +171,7 @@ WINDOW_LINES = {
     'Ia1 1 A at 0': "'1 A at 0' needs 'counts per ampere', which is not given",
     'Va 100': "'100': Va is two numbers, wanted '+ j' or '- j' or 'at'",
     'Va at 0': f"'at' after 'Va' is no number, {NUMBER}",
+    'Va off': f"'off' after 'Va' is no number, {NUMBER}",
     'Va 15 at -120, one five at one two zero': "15 at -120 is 'one five at minus one two zero', not 'one five at one two zero'",
     'missing Ia1': "'missing Ia1', wanted 'missing', a channel, 'frame' and a number from 0 to 15",
     'missing Ib 2 frame 3': "'missing Ib 2 frame 3', wanted 'missing', a channel, 'frame' and a number from 0 to 15",
@@ -158,5 +197,6 @@ def windows() -> Iterator[Bad]:
 def texts() -> Iterator[Bad]:
     yield from in_place()
     yield from whole_texts()
+    yield from second_reaches()
     yield from secondary()
     yield from windows()

@@ -3,8 +3,8 @@ import cmath
 import math
 import random
 
-from bad import COUNTS, SETTINGS
-from cases import records
+from bad import COUNTS, OF_REPLICA, SETTINGS
+from cases import building, records
 from held import hold, ran
 from model import measuring
 from model.program import run
@@ -53,16 +53,26 @@ def window_holds(numbers: list[int], ends: int, phasors: dict[int, complex], mis
             hold(abs(complex(*found) - p) < 2, f'channel {at} measures {found}, not {p}, of {says}')
 
 
+def a_confirmation(rng: random.Random, data: bytes) -> tuple[str, bytes]:
+    """The second entry: mostly the first again, else with a slope or a second reach of its own. Its line, and its record."""
+    kind, slope = rng.random(), rng.randint(1, 100)
+    reach = building.any_second(rng, int.from_bytes(data[10:12], 'big'))
+    if kind < 0.15:
+        return f'confirmation slope {slope} percent\n', records.put(data, 2, slope)
+    if kind < 0.3:
+        return f'confirmation second reach {f"{reach} {OF_REPLICA}" if reach else "off"}\n', records.put(data, 26, reach)
+    return '', data
+
+
 def a_case(rng: random.Random) -> None:
-    """Settings from the model's random records, windows by chance, and at times a confirmation of another slope."""
+    """Settings from the model's random records, windows by chance, and at times a confirmation that differs."""
     data = records.good(rng)
-    ends, other = data[1], rng.randint(1, 100)
+    ends = data[1]
     windows = [a_window(rng, ends) for _ in range(rng.randint(0, 3))]
-    again = rng.random() < 0.3
-    text = ran('read', data.hex()).out.decode() + COUNTS + (f'confirmation slope {other} percent\n' if again else '')
+    again, second = a_confirmation(rng, data)
+    text = ran('read', data.hex()).out.decode() + COUNTS + again
     text += ''.join(f'{line}\n' for lines, _, _ in windows for line in lines)
     made = ran('make', '-', given=text.encode())
-    second = records.put(data, 2, other) if again else data
     hold(made.status == 0 and not made.errors and made.out[:64] == data + second, f'entries of {text}{made}')
     numbers = measuring.numbers(made.out[64:])
     size = measuring.length(ends)
@@ -71,7 +81,8 @@ def a_case(rng: random.Random) -> None:
         window_holds(numbers[size * at:size * (at + 1)], ends, phasors, missing, text)
     shown = [line for line in run(made.out).decode().splitlines() if 'refused' in line]
     wanted = [f'window {at} refused 4 at {min(missing)}' for at, (_, _, missing) in enumerate(windows, 1) if missing]
-    hold(shown == (wanted if data == second else ['settings refused 8 at 3']), f'the model prints {shown} for {text}')
+    differs = next((at for at in range(len(data)) if data[at] != second[at]), None)
+    hold(shown == (wanted if differs is None else [f'settings refused 8 at {differs}']), f'the model prints {shown} for {text}')
 
 
 def halves() -> None:

@@ -2,8 +2,8 @@
 import random
 from itertools import chain, islice
 
-from bad import COUNTS, IMPEDANCE, IN_ORDER, SETTINGS
-from cases import records
+from bad import COUNTS, IMPEDANCE, IN_ORDER, OF_REPLICA, SETTINGS
+from cases import records, second_reach
 from held import Ran, hold, ran
 from model import settings
 
@@ -11,17 +11,18 @@ from model import settings
 
 TEN = 'zero one two three four five six seven eight nine'.split()
 DIGITS = {**{word: str(digit) for digit, word in enumerate(TEN)}, 'minus': '-', 'plus': '', 'j': ' '}
+OFF = 'second reach off'
 
 
 def heard(text: str) -> bytes:
-    """The record that a listener writes down from the digits alone: what follows the comma of each line."""
+    """The record that a listener writes down from the digits alone: what follows the comma of each line. Off is 0."""
     numbers = []
-    for line, name in zip(text.splitlines(), IN_ORDER, strict=True):
+    for line, name in zip(text.replace(OFF, f'{OFF}, zero').splitlines(), IN_ORDER, strict=True):
         said, _, digits = line.partition(', ')
         hold(said.startswith(f'{name} '), f"'{line}' does not begin with '{name}'")
         written = ''.join(DIGITS[word] for word in digits.replace('minus j', 'j minus').split())
         numbers += [int(part) for part in written.split()]
-    return b''.join((number % 65536).to_bytes(2, 'big') for number in numbers) + bytes(6)
+    return b''.join((number % 65536).to_bytes(2, 'big') for number in numbers) + bytes(4)
 
 
 def good_record(data: bytes) -> None:
@@ -36,6 +37,9 @@ def good_record(data: bytes) -> None:
     hold(written.decode() == data.hex(' ', 2).upper() + '\n', f'{shown}as hex it is {written}')
     hold(ran('read', '-', given=written) == text, f'{shown}another text from its hex')
     hold(ran('read', '-', given=data) == text, f'{shown}another text from its bytes')
+    before = text.out.decode().removesuffix(f'{OFF}\n')
+    hold((before == text.out.decode()) == any(data[26:28]), f'{shown}its second reach is read as {text.out.decode()}')
+    hold(ran('record', '-', '--binary', given=before.encode()) == back, f'{shown}another record without a line for what is off')
 
 
 def another(rng: random.Random, kinds: list[str], among: list[str], start: int) -> list[str]:
@@ -47,7 +51,7 @@ def another(rng: random.Random, kinds: list[str], among: list[str], start: int) 
 def misheard(rng: random.Random, data: bytes) -> None:
     """One digit of a text said otherwise, or written otherwise: the two no longer fit, and nothing comes out."""
     lines = ran('read', data.hex()).out.decode().splitlines()
-    at = rng.randrange(len(lines))
+    at = rng.choice([at for at, line in enumerate(lines) if line != OFF])
     written, _, said = lines[at].partition(', ')
     if rng.random() < 0.5:
         said = ' '.join(another(rng, TEN, said.split(), 0))
@@ -68,7 +72,7 @@ def bad_record(data: bytes, at: int) -> None:
 def edges():
     """Records at the edges of the rules, each fifth or seventh where there are thousands."""
     return chain(records.field_edges(), islice(records.angle_edges(), 0, None, 7), records.limit_edges(), records.spare_bytes(),
-                 islice(records.two_faults(), 0, None, 5))
+                 second_reach.records(), islice(records.two_faults(), 0, None, 5))
 
 
 def round_trips(rng: random.Random, count: int) -> int:
@@ -96,7 +100,14 @@ REFUSED = {
         '6 at 18: line angle 1 + j 1, sum of squares 2, wanted 998000 to 1002000',
     '0002 000F 0064 0000 03E8 0352 029B 0000 0000 03E8 FED4 FED4 0032 0000 0000 0000':
         '6 at 22: forward limit -300, reverse limit -300, wanted forward below reverse',
+    '0002 000F 0064 0000 03E8 0352 029B 0000 0000 03E8 FED4 012C 0032 0351 0000 0000':
+        '6 at 26: reach 850, second reach 849, wanted off or the second not below the first',
+    '0002 000F 0064 0000 03E8 0352 029B 0000 0000 03E8 FED4 012C 0032 07D1 0000 0000':
+        '6 at 26: second reach 2001, wanted off or 1 to 2000',
+    '0002 000F 0064 0000 03E8 0352 029B 0000 0000 03E8 FED4 012C 0032 0001 0007 0000':
+        '6 at 26: reach 850, second reach 1, wanted off or the second not below the first',
     '0002 000F 0064 0000 03E8 0352 029B 0000 0000 03E8 FED4 012C 0032 0000 0007 0000': '6 at 29: spare byte 7, wanted 0',
+    '0002 000F 0064 0000 03E8 0352 029B 0000 0000 03E8 FED4 012C 0032 04B0 0007 0000': '6 at 29: spare byte 7, wanted 0',
     '0002 000F': '5 at 0: 4 bytes, wanted 32',
     300 * '00': '5 at 0: 300 bytes, wanted 32',
 }
@@ -110,7 +121,10 @@ BY_HAND = {
     'pickup of 3I2 0.3 A, zero point three': 'pickup of 3I2 85 counts',             # 84.85
     'replica 0.8 + j 4.0 ohm': f'replica 400 + j 2000 {IMPEDANCE}',                 # 1000 times 0.8 times 100 over 200
     'replica 5 ohm at 53.130102354': f'replica 1500 + j 2000 {IMPEDANCE}',          # 3 + j 4 ohm
-    'reach 82.5 percent of the replica': 'reach 825 thousandths of the replica',
+    'reach 82.5 percent of the replica': f'reach 825 {OF_REPLICA}',
+    'second reach 120 percent of the replica': f'second reach 1200 {OF_REPLICA}, one two zero zero',
+    'second reach 85 percent of the replica, eight five': f'second reach 850 {OF_REPLICA}',     # equal to the reach
+    'second reach off': 'second reach off, off',
     'line angle 60 degrees': 'line angle 500 + j 866 thousandths',
     'forward limit -0.611 ohm': f'forward limit -306 {IMPEDANCE}',                  # -305.5, away from zero
     'reverse limit 0.611 ohm': f'reverse limit 306 {IMPEDANCE}',

@@ -125,8 +125,10 @@ def six_loops():
     return found
 
 
-# What stands at the head of each part of a decision, by the definition of its bytes.
-PARTS = {'trip (f .operating)': 'TRIP', 'f .operating': 'PHASES', 'f .asserting': 'LOOPS', 'directionNumber (f .direction)': 'DIRECTION'}
+# Each part of a decision that has one byte, by the definition of its bytes. What the trip is made of stands there too: the second zone is
+# not among it.
+PARTS = {'trip (f .operating) (f .asserting) (f .direction)': 'TRIP', 'f .operating': 'PHASES', 'f .asserting': 'LOOPS',
+         'directionNumber (f .direction)': 'DIRECTION', 'f .overreaching': 'SECOND_ZONE'}
 
 
 def decision_offsets():
@@ -134,7 +136,7 @@ def decision_offsets():
     at, found = 0, {}
     for part in re.split(r' (?:∷|\+\+) ', definition('crates/decision/specs/Decision.antt', 'decisionBytes')):
         word = re.fullmatch(r'word \((magnitude \()?f \.comparisons \.(\w)( \.restraint)?\)+', part)
-        name = next((name for head, name in PARTS.items() if part.startswith(head)), None)
+        name = PARTS.get(part)
         if word:
             name = f'{"DIFFERENTIAL" if word.group(1) else "RESTRAINT"}_{word.group(2).upper()}'
         if name:

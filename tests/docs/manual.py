@@ -144,7 +144,7 @@ def check_names():
 
 
 def settings_rules():
-    """The rules of the table of crates/settings, in its order, with numbers for the names of limits."""
+    """The rules of the table of crates/settings, in its order, with numbers for the names of limits and for the offsets of other rows."""
     text = blank(r'--[^\n]*', read(TABLE))
     defined = dict(re.findall(r'^(\w+) =\s*(.+)$', text, flags=re.MULTILINE))
     limits = {name: value for name, value in defined.items() if re.fullmatch(r'\d+', value)}
@@ -155,32 +155,65 @@ def settings_rules():
                 yield from rows(defined[piece])
             elif piece != '[]':
                 piece = re.sub(r'\b(' + '|'.join(limits) + r')\b', lambda m: limits[m[1]], piece)
+                piece = re.sub(r'\(offsetOf (\w+)\)', lambda m: re.match(r'\w+ (\d+)', defined[m[1]])[1], piece)
                 yield re.sub(r'\((negated|pos) (\d+)\)', lambda m: '-' * (m[1] == 'negated') + m[2], piece)
     return list(rows('settingsTable'))
 
 
+def fields():
+    """The rows of the manual's table of fields: offset, name, field, unit, from and to."""
+    cells = re.findall(r'^\*\*   (\d+) +(\S+) +(\S.*?) {2,}(\S.*?) {2,}(\S.*?) {2,}(-?\d+)$', section('SETTINGS RECORD'), flags=re.MULTILINE)
+    return [(int(at), *rest) for at, *rest in cells]
+
+
+def letters():
+    """What the manual calls the field at an offset: the last word of it in the table, as r of `reach r`."""
+    return {at: field.removesuffix(', signed').split()[-1] for at, _, field, *_ in fields()}
+
+
 def field_rows():
-    """The offset and the limits of each field, by the table of crates/settings; bytes in a row with one range are one row."""
-    rules = [(m[1], *map(int, m[2].split())) for rule in settings_rules()
-             if (m := re.fullmatch(r'(Unsigned|Signed|Byte)((?: -?\d+){3})', rule))]
-    return [next(group)[1:] for _, group in groupby(rules, key=lambda r: r if r[0] != 'Byte' else (r[0], *r[2:]))]
+    """The offset of each field and its limits as the manual writes them, by the table of crates/settings. A field that is off or from another
+    on has that one's letter; bytes in a row with one range are one row."""
+    rows = []
+    for kind, *numbers in map(str.split, settings_rules()):
+        if kind in ('Unsigned', 'Signed', 'Byte'):
+            rows.append((kind, *numbers))
+        elif kind == 'OffOrFrom':
+            other, at, high = numbers
+            rows.append((kind, at, f'0 or {letters().get(int(other))}', high))
+    return [next(group)[1:] for _, group in groupby(rows, key=lambda r: r if r[0] != 'Byte' else (r[0], *r[2:]))]
+
+
+def rules_on_fields():
+    """What the manual has to say of the rules that the table of fields has no columns for: of two fields, and of the spare bytes."""
+    called = letters()
+    for kind, *numbers in map(str.split, settings_rules()):
+        x, y = (called.get(int(number)) for number in numbers[:2])
+        if kind == 'Squares':
+            yield f'sum to {numbers[2]} at least and {numbers[3]} at most; an error is reported at {numbers[1]}'
+        elif kind == 'Below':
+            yield f'{x} is below {y}; an error is reported at {numbers[1]}'
+        elif kind == 'OffOrFrom':
+            yield (f'{y} is 0, which switches the second zone off, or from {x} to {numbers[2]}, {x} itself too; '
+                   f'every error of it is reported at {numbers[1]}')
+        elif kind not in ('Unsigned', 'Signed', 'Byte'):
+            faults.append(f'{TABLE}: {kind} is a rule of a kind that this check does not know')
+    spare = [rule.split()[1] for rule in settings_rules() if rule.startswith('Byte ')]
+    yield f'A spare byte that is not zero is reported at its own offset, {spare[0]} to {spare[-1]}'
+    yield f'{"no one two three four five six".split()[len(spare)]} spare bytes'
 
 
 def check_settings_table():
-    """The table of fields has the names of crates/settings, and its offsets and limits; the rule of the squares is beside it."""
-    text, names = section('SETTINGS RECORD'), {value: name for name, value in constants('settings', 'at.rt').items()}
-    rows = re.findall(r'^\*\*   (\d+)\s+(\S+)\s.*?\s(-?\d+)\s+(-?\d+)$', text, flags=re.MULTILINE)
-    found = [(int(at), name, int(low), int(high)) for at, name, low, high in rows]
-    wanted = [(at, names.get(at, '-'), low, high) for at, low, high in field_rows()]
+    """The table of fields has the names of crates/settings, and its offsets and limits; the rules on two fields and on spare bytes are
+    beside it."""
+    names, told = {value: name for name, value in constants('settings', 'at.rt').items()}, plain('SETTINGS RECORD')
+    found = [(at, name, low, high) for at, name, _, _, low, high in fields()]
+    wanted = [(int(at), names.get(int(at), '-'), low, high) for at, low, high in field_rows()]
     if found != wanted:
         faults.append(f'{HEADER}: the table of fields has {found}; crates/settings has {wanted}')
-    for rule in settings_rules():
-        squares = re.fullmatch(r'Squares .* (\d+) (\d+)', rule)
-        if squares and not re.search(rf'\b{squares[1]}\b[^.;]*\b{squares[2]}\b', text):
-            faults.append(f'{HEADER}: the sum of squares, {squares[1]} to {squares[2]}, is not in the manual')
-        if not squares and not re.match(r'(Unsigned|Signed|Byte|Below) ', rule):
-            faults.append(f'{TABLE}: {rule} is a rule of a kind that this check does not know')
-    return len(rows)
+    rules = [*rules_on_fields()]
+    faults.extend(f'{HEADER}: SETTINGS RECORD does not say "{rule}"' for rule in rules if rule not in told)
+    return len(found) + len(rules)
 
 
 def check_window():
@@ -204,12 +237,15 @@ def check_decision_table():
     told = ' '.join(text for _, _, text in rows)
     begins = [int(first) for first, _, _ in rows]
     ends = [int(last or first) for first, last, _ in rows]
-    if sorted([*decision_offsets().values(), 4]) != begins or ends != [at - 1 for at in begins[1:]] + [31]:
+    told_of = {at + k for name, at in decision_offsets().items() for k in range(4 if name[-2] == '_' else 1)}
+    zeros = min({*range(32)} - told_of)  # the first byte that is zero
+    if sorted([*decision_offsets().values(), zeros]) != begins or ends != [at - 1 for at in begins[1:]] + [31]:
         faults.append(f'{HEADER}: the table of a decision has {[*zip(begins, ends)]}; the source has {decision_offsets()}')
     phases = weights('crates/differential/specs/Differential.antt', 'operatingBits')
     loops = weights('crates/distance/specs/Mho.antt', 'loopBits')
+    second = f'in the second zone, added up as in byte {decision_offsets().get("DECISION_AT_LOOPS")}; 0 where r2 is 0'
     for words in (', '.join(f'{name.lower()}={bit}' for name, bit in phases.items()), ', '.join(f'{name} {bit}' for name, bit in loops.items()),
-                  ', '.join(f'{bit} {name.removeprefix("DIRECTION_").lower()}' for name, bit in directions().items())):
+                  ', '.join(f'{bit} {name.removeprefix("DIRECTION_").lower()}' for name, bit in directions().items()), second):
         if words not in told:
             faults.append(f'{HEADER}: the table of a decision does not say "{words}"')
     return len(rows)
@@ -245,7 +281,8 @@ def check_rules():
         f'a = (-{turn[0]}, {turn[1]}) and a2 = (-{turn[0]}, -{turn[1]})',
         f'3V1 ({scale} Va + a Vb + a2 Vc) by {scale}', f'3V2 ({scale} Va + a2 Vb + a Vc) by {scale}', f'3I2 ({scale} Ia + a2 Ib + a Ic) by {scale}',
         f'aP = a P by {scale} and a2P = a2 P by {scale} are rounded first', f'E = k (Ia + Ib + Ic) by {mho["K_SCALE"]}',
-        f'{mho["REACH_SCALE"]} n <= r m', f'at least {differential["SIXTY_FOURTHS_SQUARED"]} |I|^2',
+        f'asserts exactly when m > 0 and {mho["REACH_SCALE"]} n <= r m',
+        f'in the second zone, exactly when r2 > 0 and m > 0 and {mho["REACH_SCALE"]} n <= r2 m', f'at least {differential["SIXTY_FOURTHS_SQUARED"]} |I|^2',
         f's >= pickup^2 and {differential["SLOPE_SCALE"]} s > (K U)^2',
     ]
     faults.extend(f'{HEADER}: RULES does not have "{formula}"' for formula in wanted if formula not in text)

@@ -204,6 +204,18 @@ def check_back():
     return len(rows)
 
 
+def limits(rule):
+    """What the table of fields has of a rule: its offset, from, to. Of one on two fields the offset is the later one's."""
+    kind, *words = rule.split()
+    if kind == 'Below':
+        return words[1:] + ['', '']
+    if kind == 'OffOrFrom':
+        other, at, high = words
+        named = [row.cells['field'].split()[-1] for row in rules() if row.cells.get('at') == other]
+        return [at, f'0, or {named[0] if named else other}', high]
+    return words[-3:]
+
+
 def check_settings():
     """The table of fields is that of crates/settings: rows, offsets, limits. The rules on the checks name all of its rules."""
     text, wanted = read(manual.TABLE), []
@@ -211,7 +223,7 @@ def check_settings():
     for is_byte, group in groupby(manual.settings_rules(), key=lambda rule: rule.startswith('Byte ')):
         for rule in group:
             rule = re.sub(r'\(offsetOf (\w+)\)', lambda m: re.search(rf'^{m[1]} = \w+ (\d+)', text, flags=re.MULTILINE)[1], rule)
-            words = (rule.split()[1:] + ['', ''])[1:4] if rule.startswith('Below ') else rule.split()[-3:]
+            words = limits(rule)
             if not is_byte or wanted[-1][3] != 'spareRows':
                 wanted.append(words + ['spareRows' if is_byte else names[len(wanted)]])
             else:
@@ -311,7 +323,8 @@ def check_measuring():
 
 
 # How the page begins to tell of a decision's parts, by the names that the header has for them
-CONTENT = {'TRIP': 'trip', 'PHASES': 'phases', 'LOOPS': 'loops', 'DIRECTION': 'direction', None: 'zero',
+CONTENT = {'TRIP': 'trip', 'PHASES': 'phases', 'LOOPS': 'loops', 'DIRECTION': 'direction', 'SECOND': 'second zone',
+           None: 'zero',
            'RESTRAINT': 'restraint U', 'DIFFERENTIAL': '⌊√(4096 s)⌋'}
 
 

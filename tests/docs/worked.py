@@ -1,12 +1,13 @@
-"""Holds what the manual in include/gorsepetal.h works out: its record to its own formulas, and its decision and its test of the reach to the
-independent program."""
+"""Holds what the manual in include/gorsepetal.h works out: its record to its own formulas, and its decisions, its lamp under load and its
+tests at the panel to the independent program."""
 import cmath
 import math
 import re
 import sys
+from typing import NamedTuple
 
 from header import HEADER, constants
-from manual import plain, section
+from manual import plain, section, words
 from tree import ROOT, faults, read
 
 sys.path.insert(0, str(ROOT / 'tests/independent'))
@@ -27,20 +28,24 @@ def check_example():
 
     volt, ampere = given(r'cv = (\d+)')[0], given(r'ci = (\d+)')[0]
     z1, z0 = complex(*given(r'where it is smallest:\n\*\* +(\S+) \+ j (\S+) ohm')), complex(*given(r'Z0 of the same part: (\S+) \+ j (\S+) ohm'))
+    farthest, over = complex(*given(r'that seems farthest:\n\*\* +(\S+) \+ j (\S+) ohm')), 10 * given(r'second zone covers (\d+) percent')[0]
     ratio, k, angle = 1000 * volt / ampere, 1000 * (z0 - z1) / (3 * z1), 1000 * z1 / abs(z1)
-    peak = math.sqrt(2) * ampere
+    peak, second = math.sqrt(2) * ampere, over * abs(farthest) / abs(z1)
     wanted = [3, given(r'slope (\d+) percent')[0], peak * given(r'differential pickup (\S+) A')[0], ratio * z1.real, ratio * z1.imag,
               10 * given(r'zone 1 covers (\d+) percent')[0], k.real, k.imag, angle.real, angle.imag,
               -ratio * given(r'source behind: (\S+) ohm')[0] / 2, ratio * given(r'what lies ahead: (\S+) ohm')[0] / 2,
-              peak * given(r'pickup of 3I2 (\S+) A')[0], 0, 0, 0]
+              peak * given(r'pickup of 3I2 (\S+) A')[0], second, 0, 0]
     shown = re.search(r'^\*\*   ((?:[0-9A-F]{4} ?){16})$', text, flags=re.MULTILINE)
     record = ' '.join(f'{round(value) % 65536:04X}' for value in wanted)
     if not shown or shown.group(1) != record:
         faults.append(f'{HEADER}: the worked line comes to {record}')
-    for value in map(round, wanted[:13]):
+    for value in map(round, wanted[:14]):
         if not re.search(rf'(?<!\d){value}(?!\d)'.replace('-', r'-'), text):
             faults.append(f'{HEADER}: the worked line does not show {value}')
-    return len(wanted)
+    divided = f'{over:.0f} x {abs(farthest):.3f} / {abs(z1):.3f} = {second:.0f}'
+    if divided not in words(text):
+        faults.append(f'{HEADER}: the worked line does not show "{divided}"')
+    return len(wanted) + check_load(worked_record())
 
 
 def relay(record):
@@ -66,35 +71,91 @@ def given_phasors(text):
     return found
 
 
-def check_decision():
-    """The worked decision: each step and the 32 bytes are what the independent program makes of the record and the window shown."""
-    text, record = section('A DECISION, WORKED OUT'), worked_record()
+def to_window(phasors):
+    """The numbers of a window of three ends with these phasors."""
     numbers = [0] * measuring.length(3)
-    for channel, (x, y) in enumerate(given_phasors(text)):
+    for channel, (x, y) in enumerate(phasors):
         numbers[channel], numbers[4 * 12 + channel] = 8 * x, -8 * y
-    decided = decision.decide(relay(record), b''.join((x % 65536).to_bytes(2, 'big') for x in numbers), 32).written
+    return numbers
+
+
+def decided(record, numbers):
+    """The 32 bytes that the independent program decides on a window, by a record."""
+    return decision.decide(relay(record), b''.join((x % 65536).to_bytes(2, 'big') for x in numbers), 32).written
+
+
+def shown(p):
+    return f'({p.re}, {p.im})'
+
+
+def compared(n, reach, m):
+    """A loop at a reach, as the manual compares it."""
+    return f'{1000000 * n} {"<=" if 1000000 * n <= reach * m else ">"} {reach} m = {reach * m}'
+
+
+class Worked(NamedTuple):
+    """What the independent program finds in a window on the way to its decision."""
+    line: measuring.Line
+    currents: list   # of end 1 and of end 2, phase a
+    i: list          # of end 1
+    v1: measuring.Phasor
+    v2: measuring.Phasor
+    i2: measuring.Phasor
+    T: int
+    loops: dict      # each by its name
+    decided: bytes
+
+
+def worked_out(record, phasors):
+    numbers = to_window(phasors)
     line, by_channel = measuring.line(record), measuring.phasors(numbers, 3)
     v, i = by_channel[0:3], by_channel[3:6]
     v2, i2 = measuring.negative(*v), measuring.negative(*i)
-    square = measuring.squared(i2)
+    return Worked(line, [by_channel[3], by_channel[6]], i, measuring.positive(*v), v2, i2, measuring.T(line, v2, i2),
+                  {loop.name: loop for loop in measuring.loops(line, v, i)}, decided(record, numbers))
 
-    def shown(p):
-        return f'({p.re}, {p.im})'
 
-    e, ag = measuring.k_product(line, i), measuring.loops(line, v, i)[0]
-    steps = [f'3V1 = {shown(measuring.positive(*v))}', f'3V2 = {shown(v2)}', f'3I2 = {shown(i2)}', f'|3I2|^2 = {square}, above {line.pickup}^2',
-             f'T = {measuring.T(line, v2, i2)}, below {line.zf} x {square} = {line.zf * square}: forward', f'E = {shown(e)} by 1000 = ({ag.i.re - i[0].re}, {ag.i.im - i[0].im})']
-    for name, p in [(loop.name, loop) for loop in measuring.loops(line, v, i) if loop.name in ('AG', 'AB')]:
-        turned = measuring.Phasor(line.Z.re * p.i.re - line.Z.im * p.i.im, line.Z.re * p.i.im + line.Z.im * p.i.re)
-        n, m = (q.re * p.vp.re + q.im * p.vp.im for q in (p.v, turned))
-        steps.append(f'n = {n} m = {m}')
-        steps.append(f'1000000 n = {1000000 * n} <= {line.r} m = {line.r * m}: asserts' if name == 'AG' else
-                     f'{1000000 * n} > {line.r * m}, does not assert')
-    s, u, slope = measuring.squared(measuring.plus(by_channel[3], by_channel[6])), int.from_bytes(decided[8:12], 'big'), record[3]
-    steps += [f'= {s}, above {record[5]}^2', f'= {u}', f'40960000 s = {40960000 * s} > ({slope} x {u})^2 = {(slope * u) ** 2}: operates',
-              f'root of 4096 s: {int.from_bytes(decided[20:24], "big")}', ' '.join(f'{byte:02X}' for byte in decided)]
-    words = plain('A DECISION, WORKED OUT')
-    faults.extend(f'{HEADER}: the worked decision does not have "{step}"' for step in steps if step not in words)
+def steps_on_the_line(text, record, r2):
+    """Each step of the fault on the line, and the 32 bytes."""
+    w = worked_out(record, given_phasors(text))
+    line, square, ag, slope = w.line, measuring.squared(w.i2), w.loops['AG'], record[3]
+    e = measuring.k_product(line, w.i)
+    (n, m), (n_ab, m_ab) = (measuring.n_and_m(line.Z, w.loops[name]) for name in ('AG', 'AB'))
+    s, u = measuring.squared(measuring.plus(*w.currents)), int.from_bytes(w.decided[8:12], 'big')
+    return [
+        f'3V1 = {shown(w.v1)}', f'3V2 = {shown(w.v2)}', f'3I2 = {shown(w.i2)}', f'|3I2|^2 = {square}, above {line.pickup}^2',
+        f'T = {w.T}, below {line.zf} x {square} = {line.zf * square}: forward',
+        f'E = {shown(e)} by 1000 = ({ag.i.re - w.i[0].re}, {ag.i.im - w.i[0].im})',
+        f'n = {n} m = {m} 1000000 n = {compared(n, line.r, m)}: asserts, and so in the second zone too',
+        f'n = {n_ab} m = {m_ab}: {1000000 * n_ab} > {line.r * m_ab}, does not assert {compared(n_ab, r2, m_ab)}: nor in the second zone',
+        f'= {s}, above {record[5]}^2', f'= {u}', f'40960000 s = {40960000 * s} > ({slope} x {u})^2 = {(slope * u) ** 2}: operates',
+        f'root of 4096 s: {int.from_bytes(w.decided[20:24], "big")}', w.decided.hex(' ').upper(),
+    ]
+
+
+def steps_beyond(text, first, record, r2):
+    """The steps that are new for the fault beyond the line, and the 32 bytes: AG of the second zone sees it, and nothing trips."""
+    phasors = [other if other != (0, 0) else one for one, other in zip(given_phasors(first), given_phasors(text))]
+    w = worked_out(record, phasors)
+    n, m = measuring.n_and_m(w.line.Z, w.loops['AG'])
+    s, u = measuring.squared(measuring.plus(*w.currents)), [math.isqrt(4096 * measuring.squared(i) - 1) + 1 for i in w.currents]
+    if [*w.decided[:5]] != [0, 0, 0, 1, measuring.BITS['AG']]:
+        faults.append(f'{HEADER}: the fault beyond the line is not one that AG sees in the second zone alone, without a trip')
+    return [
+        f'3V1 = {shown(w.v1)} 3V2 = {shown(w.v2)} T = {w.T}, below {w.line.zf * measuring.squared(w.i2)}: forward',
+        f'AG: n = {n} m = {m} {compared(n, w.line.r, m)}: does not assert {compared(n, r2, m)}: asserts in the second zone',
+        f's = {s}; U = {u[0]} + {u[1]} = {int.from_bytes(w.decided[8:12], "big")}', w.decided.hex(' ').upper(),
+    ]
+
+
+def check_decision():
+    """The worked decisions: each step and the 32 bytes are what the independent program makes of the record and the windows shown."""
+    on_the_line, _, beyond = plain('A DECISION, WORKED OUT').partition('Then a fault beyond the line:')
+    record = worked_record()
+    r2 = int.from_bytes(record[26:28], 'big')
+    steps = [(on_the_line, step) for step in steps_on_the_line(on_the_line, record, r2)]
+    steps += [(beyond, step) for step in steps_beyond(beyond, on_the_line, record, r2)]
+    faults.extend(f'{HEADER}: the worked decision does not have "{step}"' for told, step in steps if step not in told)
     return len(steps)
 
 
@@ -107,14 +168,20 @@ def with_wave(numbers, channel, phasor):
         numbers[12 * n + channel] = round((phasor * cmath.exp(2j * math.pi * n / 16)).real)
 
 
-def tested(record, va, ia):
-    """Loop AG and the direction by a record, when the test set gives this Va and Ia, secondary and effective: cv = 100, ci = 200."""
+def from_test_set(record, volts, amperes):
+    """The decision by a record on these three voltages and currents of end 1, secondary and effective: cv = 100, ci = 200."""
     numbers = [0] * measuring.length(3)
-    for channel, volts in enumerate((va, cmath.rect(SOUND, -2 * math.pi / 3), cmath.rect(SOUND, 2 * math.pi / 3))):
-        with_wave(numbers, channel, 100 * math.sqrt(2) * volts)
-    with_wave(numbers, 3, 200 * math.sqrt(2) * ia)
-    decided = decision.decide(relay(record), b''.join((x % 65536).to_bytes(2, 'big') for x in numbers), 32).written
-    return decided[2] & 1, decided[3]
+    for channel, value in enumerate([100 * volt for volt in volts] + [200 * ampere for ampere in amperes]):
+        with_wave(numbers, channel, math.sqrt(2) * value)
+    return decided(record, numbers)
+
+
+TURNS = 0, -2 * math.pi / 3, 2 * math.pi / 3  # of phases a, b, c
+
+
+def tested(record, va, ia):
+    """The same when two voltages are sound, and phase a has this Va and Ia."""
+    return from_test_set(record, [va, *(cmath.rect(SOUND, turn) for turn in TURNS[1:])], [ia, 0, 0])
 
 
 SOUND, AMPERE = 57.7, 4
@@ -122,16 +189,26 @@ Z1, K = 0.8 + 4.0j, complex(0.628, 0.026)
 LOOP = Z1 * (1 + K)
 
 
+def at_reach(record, r, f):
+    """Loop AG in the first and in the second zone, at a part f of a reach."""
+    found = tested(record, f * r * abs(LOOP) * AMPERE, AMPERE * abs(LOOP) / LOOP)
+    return found[2] & 1, found[4] & 1
+
+
 def reach(record, f):
-    return tested(record, f * 0.8 * abs(LOOP) * AMPERE, AMPERE * abs(LOOP) / LOOP)[0]
+    return at_reach(record, 0.8, f)[0]
+
+
+def second_reach(record, f):
+    return at_reach(record, 1.5, f)
 
 
 def forward(record, f):
-    return tested(record, SOUND - f * 0.45 * AMPERE, AMPERE * abs(Z1) / Z1)[1]
+    return tested(record, SOUND - f * 0.45 * AMPERE, AMPERE * abs(Z1) / Z1)[3]
 
 
 def reverse(record, f):
-    return tested(record, SOUND - f * 1.3 * AMPERE, -AMPERE * abs(Z1) / Z1)[1]
+    return tested(record, SOUND - f * 1.3 * AMPERE, -AMPERE * abs(Z1) / Z1)[3]
 
 
 def check_tests():
@@ -139,11 +216,40 @@ def check_tests():
     right = worked_record()
     wrong = right[:6] + bytes.fromhex('03200FA0') + right[10:20] + bytes.fromhex('FE3E0514') + right[24:]
     text = plain('TESTS AT THE PANEL')
-    for test, shown, wanted in ((reach, 'GORSEPETAL_LOOP_AG has to be set at f = 0.95 and not at f = 1.05', {0.95: 1, 1.05: 0}),
-                                (forward, 'The direction has to be forward at f = 1.05 and none at f = 0.95', {1.05: 1, 0.95: 0}),
-                                (reverse, 'The direction has to be reverse at f = 1.05 and none at f = 0.95', {1.05: 2, 0.95: 0})):
-        if shown not in text:
-            faults.append(f'{HEADER}: the tests at the panel do not say "{shown}"')
+    of_reach = 'GORSEPETAL_LOOP_AG has to be set at f = 0.95 and not at f = 1.05'
+    tests = ((reach, f'|Z1 (1 + k)| x Ia. {of_reach}', {0.95: 1, 1.05: 0}),
+             (second_reach, f'In byte 4 {of_reach}. In byte 2 it has to be clear at both', {0.95: (0, 1), 1.05: (0, 0)}),
+             (forward, 'The direction has to be forward at f = 1.05 and none at f = 0.95', {1.05: 1, 0.95: 0}),
+             (reverse, 'The direction has to be reverse at f = 1.05 and none at f = 0.95', {1.05: 2, 0.95: 0}))
+    for test, sentence, wanted in tests:
+        if sentence not in text:
+            faults.append(f'{HEADER}: the tests at the panel do not say "{sentence}"')
         if any(test(right, f) != said for f, said in wanted.items()) or all(test(wrong, f) == said for f, said in wanted.items()):
             faults.append(f'{HEADER}: the test of {test.__name__} does not tell the right record from the one in thousandths of an ohm')
-    return 3
+    return len(tests)
+
+
+# The lamp under load
+
+
+def lamp(record, volts, amperes, degrees):
+    """The second zone under a balanced load, whose currents are behind the voltages by so many degrees."""
+    behind = math.radians(degrees)
+    return from_test_set(record, [cmath.rect(volts, turn) for turn in TURNS], [cmath.rect(amperes, turn - behind) for turn in TURNS])[4]
+
+
+def check_load(record):
+    """How far the worked second zone goes under load, by the manual's formula; and the lamp is dark at the current that it names, and lit at
+    the next tenth of an ampere."""
+    text = plain('A LINE OF THREE ENDS, WORKED OUT')
+    given = re.search(r'load angle of (\d+) degrees .* at (\d+) V the lamp stays dark up to ([\d.]+) A', text)
+    degrees, volts, amperes = map(float, given.groups() if given else (0, 0, 0))
+    part, angle = int.from_bytes(record[26:28], 'big') / 1000, math.degrees(cmath.phase(Z1))
+    ends = part * abs(Z1)
+    at_load = ends * math.cos(math.radians(angle - degrees))
+    wanted = [f'{part:g} x {abs(Z1):.3f} = {ends:.2f} ohm', f'{ends:.2f} x cos({angle:.2f} - {degrees:g}) = {at_load:.2f} ohm',
+              f'up to {math.floor(10 * volts / at_load) / 10} A']
+    faults.extend(f'{HEADER}: the worked line does not show "{sum_}"' for sum_ in wanted if sum_ not in text)
+    if [bool(lamp(record, volts, amperes + more, degrees)) for more in (0, 0.1)] != [False, True]:
+        faults.append(f'{HEADER}: at {volts:g} V and {degrees:g} degrees the lamp does not begin to light between {amperes} A and a tenth more')
+    return len(wanted)
