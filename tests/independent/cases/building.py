@@ -6,7 +6,7 @@ import struct
 from typing import Collection, Iterator, NamedTuple
 
 from model.measuring import COSINES, MISSING, Line, Phasor, channels
-from model.settings import FIELDS, SQUARES, first_fault
+from model.settings import FIELDS, OFF, SPARE, SQUARES, first_fault
 
 ENDS = range(2, 6 + 1)
 LARGEST = 32767
@@ -29,10 +29,10 @@ LINE = Line(ends=2, Z=Phasor(800, 5000), r=850, k=Phasor(667, -40),
 
 def record(line: Line, slope: int = 15, differential: int = 100) -> bytes:
     values = (line.ends, slope, differential, *line.Z, line.r, *line.k,
-              *line.D, line.zf, line.zr, line.pickup)
+              *line.D, line.zf, line.zr, line.pickup, line.r2)
     two = [value.to_bytes(2, 'big', signed=field.signed)
            for field, value in zip(FIELDS, values, strict=True)]
-    result = b''.join(two) + bytes(6)
+    result = b''.join(two) + bytes(len(SPARE))
     assert first_fault(result) is None
     return result
 
@@ -40,7 +40,7 @@ def record(line: Line, slope: int = 15, differential: int = 100) -> bytes:
 def corners() -> Iterator[Line]:
     """LINE with each setting at both ends of its range, and at zero where
     its sign changes. zf is below zr, so zf ends one sooner, zr begins one
-    later."""
+    later. The second reach is not below the first."""
     def pairs(at: int) -> list[Phasor]:
         return [Phasor(re, im) for re in (LOW[at], HIGH[at])
                 for im in (LOW[at + 2], HIGH[at + 2])]
@@ -55,6 +55,8 @@ def corners() -> Iterator[Line]:
         (LOW[20], LOW[20] + 1), (LOW[20], HIGH[22]), (-1, 0), (0, 1),
         (HIGH[22] - 1, HIGH[22]))]
     changes += [{'pickup': pickup} for pickup in (LOW[24], HIGH[24])]
+    changes += [{'r2': r2} for r2 in (LINE.r, LINE.r + 1, HIGH[26])]
+    changes += [{'r': r, 'r2': r} for r in (LOW[10], HIGH[10])]
     return (LINE._replace(**change) for change in changes)
 
 
@@ -66,6 +68,13 @@ def any_angle(rng: random.Random) -> Phasor:
     return Phasor(re, rng.choice(fit))
 
 
+def any_second(rng: random.Random, r: int) -> int:
+    """A second reach beside this first one: off in a third; else the same,
+    the largest, or any between."""
+    between = rng.randint(r, HIGH[26])
+    return rng.choice([OFF, OFF, r, HIGH[26], between, between])
+
+
 def any_line(rng: random.Random) -> Line:
     """Each setting anywhere in its range, often at an end of it."""
     def setting(at: int) -> int:
@@ -73,9 +82,10 @@ def any_line(rng: random.Random) -> Line:
         return rng.choice([LOW[at], inside, inside, HIGH[at]])
 
     zf, zr = sorted(rng.sample(range(LOW[20], HIGH[22] + 1), 2))
-    return Line(ends=rng.choice(ENDS), Z=Phasor(setting(6), setting(8)),
-                r=setting(10), k=Phasor(setting(12), setting(14)),
-                D=any_angle(rng), zf=zf, zr=zr, pickup=setting(24))
+    r = setting(10)
+    return Line(ends=rng.choice(ENDS), Z=Phasor(setting(6), setting(8)), r=r,
+                k=Phasor(setting(12), setting(14)), D=any_angle(rng), zf=zf,
+                zr=zr, pickup=setting(24), r2=any_second(rng, r))
 
 
 # ---- Samples of one channel, and windows of them ---------------------------

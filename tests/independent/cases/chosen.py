@@ -4,13 +4,15 @@ here: for decide_cases.py and program_inputs.py.
 fixed() gives the same ones each time, endless(rng) as many more as are wanted.
 """
 import random
-from typing import Iterator, NamedTuple
+from itertools import cycle
+from typing import Iterable, Iterator, NamedTuple
 
-from cases import currents, hand_checks, trying, windows
+from cases import currents, hand_checks, second_zone, trying, windows
 from cases.building import HIGH, LINE, LOW, any_line, record
 from cases.records import put
 from model.differential import slope
 from model.measuring import Line, line, phasors
+from model.settings import OFF
 
 
 class Chosen(NamedTuple):
@@ -19,18 +21,23 @@ class Chosen(NamedTuple):
     numbers: list[int]
 
 
-def reaches(chosen: Chosen) -> list[int]:
+Reaches = tuple[int, int]   # the first and the second
+
+
+def reaches(chosen: Chosen) -> list[Reaches]:
     """The smallest, the largest, and those at which a loop just asserts and
-    just does not, but for the record's own."""
+    just does not, in both zones; but for the record's own."""
     given = line(chosen.record)
     enough = windows.just_enough(given, phasors(chosen.numbers, given.ends))
-    found = {LOW[10], HIGH[10], *enough, *(r - 1 for r in enough)}
-    return sorted(found - {given.r})
+    found = {(LOW[10], OFF), (HIGH[10], OFF), (LOW[10], HIGH[26])}
+    found.update(*map(windows.both_zones, enough))
+    return sorted(found - {(given.r, given.r2)})
 
 
-def at_reach(chosen: Chosen, r: int) -> Chosen:
-    label, good, numbers = chosen
-    return Chosen(f'{label}, r={r}', put(good, 10, r), numbers)
+def at_reaches(chosen: Chosen, pair: Reaches) -> Chosen:
+    (label, good, numbers), (r, r2) = chosen, pair
+    return Chosen(f'{label}, r={r}, r2={r2}', put(put(good, 10, r), 26, r2),
+                  numbers)
 
 
 def at_pair(chosen: Chosen, K: int, pickup: int) -> Chosen:
@@ -47,22 +54,40 @@ def tried(found: trying.Currents, on: Line = LINE) -> Iterator[Chosen]:
         yield at_pair(Chosen(found.label, good, found.numbers), *pair)
 
 
-def fixed() -> Iterator[Chosen]:
+def once(some: Iterable[Chosen]) -> Iterator[Chosen]:
+    """Each record with each window once: an edge that is sought from several
+    records is found several times."""
+    before = set()
+    for chosen in some:
+        key = chosen.record, tuple(chosen.numbers)
+        if key not in before:
+            before.add(key)
+            yield chosen
+
+
+def one_by_one() -> Iterator[Chosen]:
     for label, on, numbers in hand_checks.of_channel():
         yield Chosen(label, record(on), numbers)
     for found in windows.fixed():
         yield Chosen(*found)
-        yield from (at_reach(Chosen(*found), r)
-                    for r in reaches(Chosen(*found)))
+        yield from (at_reaches(Chosen(*found), pair)
+                    for pair in reaches(Chosen(*found)))
+    for label, on, numbers in second_zone.fixed():
+        yield Chosen(label, record(on), numbers)
+    lines = cycle([LINE, LINE._replace(r2=HIGH[26])])
     for found in currents.fixed():
-        yield from tried(found)
+        yield from tried(found, next(lines))
+
+
+def fixed() -> Iterator[Chosen]:
+    return once(one_by_one())
 
 
 def at_an_edge(rng: random.Random, chosen: Chosen) -> Chosen:
     """With a slope and a pickup at an edge of one of its phases, or with a
     reach at an edge of one of its loops."""
     if rng.random() < 0.5:
-        return at_reach(chosen, rng.choice(reaches(chosen)))
+        return at_reaches(chosen, rng.choice(reaches(chosen)))
     ends = slope(chosen.record).ends
     return at_pair(chosen, *rng.choice(trying.edges(ends, chosen.numbers)))
 

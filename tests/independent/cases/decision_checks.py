@@ -1,5 +1,5 @@
 """Document 01's hand checks as windows, with what a decision on each should
-show.
+show, and one of document 02's second zone, which does not trip.
 
 checks() puts them to model/decision.py; windows() gives each window once, for
 an archive.
@@ -9,12 +9,12 @@ from typing import Iterator, NamedTuple
 
 from cases import currents, hand_checks
 from cases.building import (ZERO, exact, exact_case, of_phases, record,
-                            turned)
+                            turned, window)
 from cases.trying import QUIET
 from model.decision import FORM, decision_record
 
-NAMES = ('trip', 'phases', 'loops', 'direction', 'U of a', 'U of b', 'U of c',
-         'root of a', 'root of b', 'root of c')
+NAMES = ('trip', 'phases', 'loops', 'direction', 'second zone', 'U of a',
+         'U of b', 'U of c', 'root of a', 'root of b', 'root of c')
 
 
 class Check(NamedTuple):
@@ -24,9 +24,9 @@ class Check(NamedTuple):
     expected: dict[str, int]    # by NAMES, or whether a phase operates
 
 
-def decision(good: bytes, window: list[int]) -> dict[str, int]:
+def decision(good: bytes, numbers: list[int]) -> dict[str, int]:
     """By NAMES, and whether each phase operates."""
-    found = dict(zip(NAMES, FORM.unpack(decision_record(good, window)),
+    found = dict(zip(NAMES, FORM.unpack(decision_record(good, numbers)),
                      strict=True))
     for bit, letter in zip((1, 2, 4), 'abc'):
         found[f'{letter} operates'] = int(found['phases'] & bit != 0)
@@ -82,8 +82,23 @@ def p8_to_p11() -> Iterator[Check]:
 
 def p12_to_p14() -> Iterator[Check]:
     """And those after them."""
-    for (name, line, window), expected in hand_checks.of_end_1():
-        yield Check(name, record(line), window, expected)
+    for (name, line, numbers), expected in hand_checks.of_end_1():
+        yield Check(name, record(line), numbers, expected)
+
+
+def does_not_trip() -> Iterator[Check]:
+    """The example worked by hand, what comes in at end 1 going out at end 2.
+    Direction is forward. The first zone trips from 600 on, the second
+    never."""
+    volts, amps = hand_checks.EXAMPLE
+    out = [(-re, -im) for re, im in amps]
+    numbers = window([exact(value) for value in (*volts, *amps, *out)], 2)
+    for r, r2, trip, first, second in ((599, 600, 0, 0, 1), (1, 2000, 0, 0, 1),
+                                       (600, 600, 1, 1, 1)):
+        line = hand_checks.LINE._replace(r=r, pickup=50, r2=r2)
+        yield Check(f'second zone, r={r}, r2={r2}', record(line), numbers, {
+            'trip': trip, 'phases': 0, 'loops': first, 'direction': 1,
+            'second zone': second})
 
 
 def all_of_them() -> Iterator[Check]:
@@ -91,12 +106,13 @@ def all_of_them() -> Iterator[Check]:
     yield from p7()
     yield from p8_to_p11()
     yield from p12_to_p14()
+    yield from does_not_trip()
 
 
 def checks():
     """What is checked, what comes out, what should."""
-    for name, good, window, expected in all_of_them():
-        found = decision(good, window)
+    for name, good, numbers, expected in all_of_them():
+        found = decision(good, numbers)
         for what, number in expected.items():
             yield f'{name}, {what}', found[what], number
 

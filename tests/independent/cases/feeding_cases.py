@@ -1,5 +1,5 @@
 """The calls of feed that are compared, in their histories: the ones that CR 1
-of document 02 suggests, one by one.
+and CR 2 of document 02 suggest, one by one.
 
 Most are long runs through one relay. A state that no run would leave is lent
 as it is.
@@ -7,17 +7,19 @@ as it is.
 from itertools import chain, cycle, product
 from typing import Iterator
 
-from cases import decision_checks, records
-from cases.building import ENDS, LARGEST, as_data, largest, window
+from cases import decision_checks, records, second_reach
+from cases.building import (ENDS, HIGH, LARGEST, LINE, as_data, largest,
+                            record, window)
 from cases.decide_cases import ENOUGH, SMALL, repeated, strong
 from cases.frames import (BEHIND, Frame, entered, faults, feeds, frames, good,
                           holding, load, missing_at, sizes_beside, steady,
-                          wave)
+                          through, wave)
 from cases.records import FRESH, ROOM
+from cases.second_zone import TOWARDS
 from cases.steps import History
 from model.differential import slope
 from model.measuring import FRAMES, channels
-from model.settings import NOTHING, RECORD, STATE
+from model.settings import NOTHING, OFF, RECORD, STATE
 
 COUNTS = (0, 1, 14, 15, 16, 17, 200, 255, 256, 65535)
 OTHER_STATES = (0, 63, 64, 65, STATE - 1, STATE + 1, 256 + STATE)
@@ -45,8 +47,8 @@ def windows_fed() -> Iterator[History]:
     """Each hand check frame by frame. A confirmation before each empties the
     window, and often changes N."""
     steps = []
-    for _, record, numbers in decision_checks.windows():
-        steps += entered(record) + feeds(frames(numbers, slope(record).ends))
+    for _, entry, numbers in decision_checks.windows():
+        steps += entered(entry) + feeds(frames(numbers, slope(entry).ends))
     yield History(FRESH, steps, 'hand checks fed')
 
 
@@ -65,6 +67,25 @@ def extremes() -> Iterator[History]:
             steps += feeds([frame] * FRAMES)
         steps += feeds(squares) + feeds(flat * 4)
         yield History(FRESH, steps, f'extremes, {ends} ends')
+
+
+# ---- The second zone -------------------------------------------------------
+
+def second_zone() -> Iterator[History]:
+    """Faults one after another in each direction, at 300 thousandths of the
+    line: only the second zone sees them, both zones do, or none."""
+    for ends in ENDS:
+        passing = [wave(ends, fault, infeed=through(ends))
+                   for fault in ('ag', 'bg', 'cg', 'ab', 'bc', 'ca')]
+        fed, steps = wave(ends, 'ag'), []
+        for (towards, limits), (r, r2) in product(TOWARDS.items(), (
+                (200, 400), (400, 400), (200, OFF), (200, HIGH[26]))):
+            line = LINE._replace(ends=ends, r=r, r2=r2, **limits)
+            every = towards == 'forward' and r2 == 400
+            steps += entered(record(line))
+            for given in [*(passing if every else passing[:1]), fed]:
+                steps += feeds(given)
+        yield History(FRESH, steps, f'second zone, {ends} ends')
 
 
 # ---- Missing samples -------------------------------------------------------
@@ -232,7 +253,7 @@ def stored() -> Iterator[History]:
     """Records at the edges of the rules found in force, with a frame of their
     own length where N is not far off, and what may be pending."""
     for in_force in chain(records.field_edges(), records.limit_edges(),
-                          records.spare_bytes()):
+                          records.spare_bytes(), second_reach.records()):
         ends = int.from_bytes(in_force[:2], 'big')
         given = frames(strong(ends), ends) if ends in ENDS else load(2)
         yield History(records.relay(in_force, good(2), holding(16, given)),
@@ -263,7 +284,7 @@ def counts() -> Iterator[History]:
 
 
 def fixed() -> Iterator[History]:
-    return chain(faults_coming(), windows_fed(), extremes(),
+    return chain(faults_coming(), windows_fed(), extremes(), second_zone(),
                  missing_passing(), several_missing(), missing_at_first(),
                  calls_between(), refused_between(), order(), lengths(),
                  stored(), counts())

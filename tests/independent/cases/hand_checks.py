@@ -1,5 +1,5 @@
 """The hand checks of document 01 that concern model/measuring.py, by their
-numbers.
+numbers, and those of loops in the second zone of document 02, CR 2, too.
 
 checks() puts them to that file. of_channel() and of_end_1() have the same as
 windows, so that they reach an archive too.
@@ -8,9 +8,10 @@ import itertools
 from typing import Iterator, NamedTuple
 
 from cases.building import ENDS, ZERO, Case, exact_case, one_channel, pulse
-from model.measuring import (COSINES, Line, Loop, Phasor, asserts, channels,
-                             direction, loop_bits, loops, negative, phasor,
-                             positive, reaches_pickup)
+from model.measuring import (COSINES, Line, Loop, Phasor, asserts, by_loop,
+                             channels, direction, loops, n_and_m, negative,
+                             phasor, positive, reaches_pickup, zone_bits)
+from model.settings import OFF
 
 # D of P14, Z of P12; the rest as in the document's example record, but for
 # the pickup, which is P14's.
@@ -49,7 +50,7 @@ EXAMPLE = ([Phasor(1000, 0), Phasor(-1000, -1732), Phasor(-1000, 1732)],
 def p12(i: Phasor, r: int) -> bool:
     """P12's loop, with I and r left open."""
     loop = Loop('P12', v=Phasor(500, 0), i=i, vp=Phasor(1000, 0))
-    return asserts(Phasor(0, 1000), r, loop)
+    return asserts(r, n_and_m(Phasor(0, 1000), loop))
 
 
 def no_voltage():
@@ -60,8 +61,10 @@ def no_voltage():
         for v in (ZERO, Phasor(500, 0), Phasor(-500, 0)):
             vp_zero = loop._replace(v=v)
             yield f'{loop.name}: Vp=0, V={v}', asserts(
-                LINE.Z, LINE.r, vp_zero), False
-    yield 'all V=0: no bit', loop_bits(LINE, LINE.r, voltages, currents), 0
+                LINE.r, n_and_m(LINE.Z, vp_zero)), False
+    for r2 in (OFF, LINE.r, 2000):
+        yield f'all V=0: no bit, second reach {r2}', zone_bits(
+            LINE._replace(r2=r2), by_loop(LINE, voltages, currents)), (0, 0)
 
 
 def checks():
@@ -100,16 +103,22 @@ def of_channel() -> Iterator[Case]:
             yield one_channel(name, LINE._replace(ends=ends), index, samples)
 
 
+def of_zones(first: int, second: int) -> dict[str, int]:
+    return {'loops': first, 'second zone': second}
+
+
 def p12_and_p13() -> Iterator[tuple[Case, dict]]:
     """With these voltages 3V1 is the Vp of P12, and with k=0 loop AG has its
     I. No other loop asserts at these reaches."""
     voltages = [(500, 0), (-500, 0), (-500, 0)]
-    for name, current, r, bits in (
-            ('P12', -1000, 500, 1), ('P12', -1000, 499, 0),
-            ('P13', 1000, 500, 0), ('P13', 1000, 2000, 0)):
-        line = LINE._replace(k=ZERO, r=r)
-        yield (exact_case(f'{name}, r={r}', line, voltages,
-                          [(0, current), ZERO, ZERO]), {'loops': bits})
+    for name, current, r, r2, *bits in (
+            ('P12', -1000, 500, OFF, 1, 0), ('P12', -1000, 499, OFF, 0, 0),
+            ('P12', -1000, 499, 500, 0, 1), ('P12', -1000, 499, 499, 0, 0),
+            ('P13', 1000, 500, OFF, 0, 0), ('P13', 1000, 2000, OFF, 0, 0),
+            ('P13', 1000, 500, 2000, 0, 0)):
+        line = LINE._replace(k=ZERO, r=r, r2=r2)
+        yield (exact_case(f'{name}, r={r}, r2={r2}', line, voltages,
+                          [(0, current), ZERO, ZERO]), of_zones(*bits))
 
 
 def p14() -> Iterator[tuple[Case, dict]]:
@@ -121,10 +130,11 @@ def p14() -> Iterator[tuple[Case, dict]]:
 
 
 def worked_example() -> Iterator[tuple[Case, dict]]:
-    for r, bits in ((850, 1), (600, 1), (599, 0)):
-        line = LINE._replace(r=r, pickup=50)
-        yield (exact_case(f'the example worked by hand, r={r}', line,
-                          *EXAMPLE), {'loops': bits, 'direction': 1})
+    for r, r2, *bits in ((850, OFF, 1, 0), (600, OFF, 1, 0), (599, OFF, 0, 0),
+                         (599, 600, 0, 1), (599, 599, 0, 0), (600, 850, 1, 1)):
+        line = LINE._replace(r=r, pickup=50, r2=r2)
+        yield (exact_case(f'the example worked by hand, r={r}, r2={r2}', line,
+                          *EXAMPLE), {**of_zones(*bits), 'direction': 1})
 
 
 def of_end_1() -> Iterator[tuple[Case, dict]]:
@@ -133,5 +143,6 @@ def of_end_1() -> Iterator[tuple[Case, dict]]:
     yield from p12_and_p13()
     yield from p14()
     yield from worked_example()
-    yield exact_case('Vp=0', LINE, [ZERO] * 3,
-                     [(0, -1000), ZERO, (7, 9)]), {'loops': 0}
+    for r2 in (OFF, 2000):
+        yield exact_case('Vp=0', LINE._replace(r2=r2), [ZERO] * 3,
+                         [(0, -1000), ZERO, (7, 9)]), of_zones(0, 0)

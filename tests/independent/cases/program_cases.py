@@ -127,6 +127,7 @@ def proposals() -> Iterator[Case]:
     yield case('spare', flip(SAMPLE, 31, 1), 31)
     yield case('squares', put(SAMPLE, 18, 998), 18)
     yield case('limits', put(SAMPLE, 20, 300), 22)
+    yield case('second_reach', put(SAMPLE, 26, 849), 26)
 
 
 def confirmations() -> Iterator[Case]:
@@ -207,6 +208,16 @@ def trips() -> Iterator[Case]:
     yield Case('forward_but_no_loop',
                entered(through(*AG), record=put(SAMPLE, 10, 550)),
                printed(decided(0, 0, 0, 1)))
+
+
+def second_zone() -> Case:
+    """At 600 thousandths of the replica: out of the first reach, in the
+    second. Nothing is printed of it, and it does not trip."""
+    record = put(put(SAMPLE, 10, 550), 26, 850)
+    return Case('second_zone', entered(
+        through(*AG), through(*reversed_(AG)), fed(*AG), record=record),
+        printed(decided(0, 0, 0, 1), decided(0, 0, 0, 2),
+                decided(1, 1, 0, 1)))
 
 
 # The paper mill: 100 into the line at end 1, 40 out of it at end 2. By slope,
@@ -302,8 +313,8 @@ def cuts() -> Iterator[Case]:
 # ---- All of them -----------------------------------------------------------
 
 ONE_BY_ONE = [*entries(), *missing(), *other_lengths(), *of_loops(),
-              *directions(), *phases(), *trips(), *paper_mill(), *more_ends(),
-              many_windows(), extremes()]
+              *directions(), *phases(), *trips(), second_zone(),
+              *paper_mill(), *more_ends(), many_windows(), extremes()]
 CASES = [*ONE_BY_ONE, *cuts()]
 INPUTS = {case.name: case.data for case in CASES}
 STORED = [*(case.name for case in ONE_BY_ONE), *NAMED_CUTS.values()]

@@ -9,7 +9,7 @@ from collections import deque
 from itertools import chain, islice
 from typing import Callable, Iterator
 
-from cases import chosen, program_cases, records
+from cases import chosen, program_cases, records, second_reach
 from cases.building import ENDS, as_data, without
 from model.differential import slope
 from model.measuring import MISSING, length
@@ -29,6 +29,14 @@ def refused_entries() -> Iterator[Input]:
     for place in range(RECORD):
         yield (f'confirmation differs at {place}',
                records.SAMPLE + records.flip(records.SAMPLE, place, 1))
+
+
+def second_reaches() -> Iterator[Input]:
+    """Each edge of the second reach, with a window that is reached if the
+    entries are good."""
+    for record in second_reach.edges((1, 850, 2000)):
+        yield (f'second reach, {record.hex()}',
+               2 * record + as_data([0] * length(2)))
 
 
 def refused_windows() -> Iterator[Input]:
@@ -51,6 +59,7 @@ def fixed() -> Iterator[Input]:
     yield from program_cases.INPUTS.items()
     yield from program_cases.EXAMPLES.items()
     yield from refused_entries()
+    yield from second_reaches()
     yield from refused_windows()
     yield many()
 

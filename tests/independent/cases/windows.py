@@ -10,13 +10,14 @@ import random
 from typing import Iterator
 
 from cases.building import (ENDS, HIGH, LARGEST, LINE, LOW, ZERO, Case,
-                            any_line, corners, exact_case, largest,
+                            any_line, any_second, corners, exact_case, largest,
                             one_channel, pulse, record, turned, wave, window,
                             without)
 from cases.faults import FAULTS, Place, volts_and_amps
-from model.measuring import (COSINES, Line, Phasor, asserts, channels,
-                             direction, length, loops, n_and_m, negative,
-                             phasors, reaches_pickup)
+from model.measuring import (COSINES, Line, Phasor, asserts, by_loop, channels,
+                             direction, length, negative, phasors,
+                             reaches_pickup)
+from model.settings import OFF
 
 # ---- Small windows: ties of the rounding by 131072 -------------------------
 
@@ -85,7 +86,8 @@ def extreme(line: Line, v: str, i: str, turn: int) -> Case:
 
 def extremes() -> Iterator[Case]:
     far = LINE._replace(ends=6, Z=Phasor(HIGH[6], HIGH[8]), r=HIGH[10],
-                        k=Phasor(HIGH[12], LOW[14]), zf=LOW[20], zr=HIGH[22])
+                        k=Phasor(HIGH[12], LOW[14]), zf=LOW[20], zr=HIGH[22],
+                        r2=HIGH[26])
     for number in (LARGEST, -LARGEST):
         yield Case(f'all {number}', far, [number] * length(far.ends))
     for line, v, i in itertools.product((LINE, far), SHIFTS, SHIFTS):
@@ -152,23 +154,32 @@ def direction_equalities() -> Iterator[Case]:
                          turned(0, (0, -300)), turned(0, (300, -400)))
 
 
-def loop_equalities() -> Iterator[Case]:
+def equal_at(reach: int) -> Iterator[Case]:
     """P12 and P13 through a window. V = (reach,0) and Z I = (1000000,0) have
     one direction, so the phase's loops are equal at that reach, whatever Vp
     is. Reversed, V and Z I are both against Vp: equal, but m is below 0."""
     line = LINE._replace(Z=Phasor(0, 1000), k=Phasor(0, 0))
-    for phase, reach in itertools.product(range(3), (1, 2, 500, 2000)):
+    for phase in range(3):
         voltages = {
             'ahead': turned(phase, (reach, 0)),
             'ground reversed': turned(phase, (-reach, 0), (0, -2000),
                                       (0, 2000)),
             'phase reversed': turned(phase, (-reach, 0), ZERO, (0, 4000))}
-        for (label, v), current, r in itertools.product(
-                voltages.items(), (-1000, 0, 1000),
-                sorted({reach, max(reach - 1, 1)})):
+        for (label, v), current in itertools.product(
+                voltages.items(), (-1000, 0, 1000)):
             yield exact_case(f'{label} on phase {phase}, equal at {reach}, '
-                             f'r={r}, I={current}', line._replace(r=r), v,
+                             f'I={current}', line, v,
                              turned(phase, (0, current)))
+
+
+EQUAL = (1, 2, 500, 2000)   # reaches at which loops are equal
+
+
+def loop_equalities() -> Iterator[Case]:
+    for reach in EQUAL:
+        for (label, line, numbers), r in itertools.product(
+                equal_at(reach), sorted({reach, max(reach - 1, 1)})):
+            yield Case(f'{label}, r={r}', line._replace(r=r), numbers)
 
 
 def no_voltage() -> Iterator[Case]:
@@ -195,10 +206,11 @@ def any_grid(rng: random.Random) -> Iterator[Case]:
     grid = [(size * re, size * im)
             for re, im in itertools.product(range(-2, 3), repeat=2)]
     zf, zr = rng.choice([(-1000, 0), (0, 1000), (-500, 500)])
-    line = Line(ends=rng.choice(ENDS), Z=Phasor(0, 1000),
-                r=rng.choice([500, 1000, 2000]),
+    r = rng.choice([500, 1000, 2000])
+    line = Line(ends=rng.choice(ENDS), Z=Phasor(0, 1000), r=r,
                 k=rng.choice([Phasor(0, 0), Phasor(500, 500)]),
-                D=Phasor(0, 1000), zf=zf, zr=zr, pickup=size)
+                D=Phasor(0, 1000), zf=zf, zr=zr, pickup=size,
+                r2=rng.choice([OFF, r, max(r, 1000), 2000]))
     yield exact_case('grid', line, rng.choices(grid, k=3),
                      rng.choices(grid, k=3))
 
@@ -237,13 +249,14 @@ def fault_line(rng: random.Random) -> Line:
     size, angle = rng.uniform(500, 18000), math.radians(rng.uniform(45, 89))
     z, d = cmath.rect(size, angle), cmath.rect(1000, angle)
     zf = round(rng.choice([-0.2, 0.5, -0.5, 0.05]) * size)
+    r = rng.choice([1, 499, 500, 850, 2000, rng.randint(1, 2000)])
     return Line(ends=rng.choice(ENDS),
-                Z=Phasor(round(z.real), round(z.imag)),
-                r=rng.choice([1, 499, 500, 850, 2000, rng.randint(1, 2000)]),
+                Z=Phasor(round(z.real), round(z.imag)), r=r,
                 k=Phasor(rng.randint(0, 1000), rng.randint(-500, 500)),
                 D=Phasor(round(d.real), round(d.imag)),
                 zf=zf, zr=zf + rng.choice([1, 100, 2000]),
-                pickup=rng.choice([20, 100, rng.randint(1, 3000)]))
+                pickup=rng.choice([20, 100, rng.randint(1, 3000)]),
+                r2=any_second(rng, r))
 
 
 def any_fault(rng: random.Random) -> Iterator[Case]:
@@ -283,9 +296,8 @@ def searches(line: Line, numbers: list[int]):
     by_channel = phasors(numbers, line.ends)
     v, i = by_channel[0:3], by_channel[3:6]
     v2, i2 = negative(*v), negative(*i)
-    for loop in loops(line, v, i):
-        yield ('r', lambda r, loop=loop: asserts(line.Z, r, loop),
-               LOW[10], HIGH[10])
+    for loop in by_loop(line, v, i).values():
+        yield 'r', lambda r, loop=loop: asserts(r, loop), LOW[10], HIGH[10]
     yield ('pickup', lambda pickup: reaches_pickup(i2, pickup),
            LOW[24], HIGH[24])
     yield ('zf', lambda zf: direction(line._replace(zf=zf), v2, i2),
@@ -294,14 +306,28 @@ def searches(line: Line, numbers: list[int]):
            line.zf + 1, HIGH[22])
 
 
+def both_zones(enough: int) -> list[tuple[int, int]]:
+    """First and second reaches at both sides of the least reach at which a
+    loop asserts: the first zone sees it and the second is off; the first just
+    does not, and the second does; the second just does not."""
+    return [(enough, OFF), (enough - 1, enough), (LOW[10], enough - 1)]
+
+
+def both_sides(name: str, found: int) -> list[dict[str, int]]:
+    """The settings at both sides of an edge."""
+    if name == 'r':
+        return [{'r': r, 'r2': r2} for r, r2 in both_zones(found)]
+    return [{name: found - 1}, {name: found}]
+
+
 def edges(cases: Iterator[Case]) -> Iterator[Case]:
     for label, line, numbers in cases:
         for name, answer, low, high in searches(line, numbers):
             found = first_change(answer, low, high)
             if found is not None:
-                for value in (found - 1, found):
-                    yield Case(f'{label}, edge {name}={value}',
-                               line._replace(**{name: value}), numbers)
+                for settings in both_sides(name, found):
+                    yield Case(f'{label}, edge {settings}',
+                               line._replace(**settings), numbers)
 
 
 def any_edge(rng: random.Random) -> Iterator[Case]:
@@ -313,8 +339,7 @@ def just_enough(line: Line, by_channel: list[Phasor]) -> set[int]:
     """The least reach at which each loop asserts, where it does not at 1 but
     at 2000."""
     found = set()
-    for loop in loops(line, by_channel[0:3], by_channel[3:6]):
-        n, m = n_and_m(line.Z, loop)
+    for n, m in by_loop(line, by_channel[0:3], by_channel[3:6]).values():
         if m > 0 and LOW[10] * m < 1000000 * n <= HIGH[10] * m:
             found.add(-(-1000000 * n // m))
     return found

@@ -29,7 +29,7 @@ sys.dont_write_bytecode = True
 sys.path[0] = str(Path(__file__).resolve().parents[1])  # model, cases, driving
 from cases import program_cases, program_inputs  # noqa: E402
 from cases.building import ENDS  # noqa: E402
-from driving import archive  # noqa: E402
+from driving import archive, reach_seen  # noqa: E402
 from model.measuring import BITS, length  # noqa: E402
 from model.program import run  # noqa: E402
 from model.settings import FAULTS, RECORD  # noqa: E402
@@ -157,13 +157,14 @@ def wanted() -> list[str]:
         *(f'mho {name}: {either}' for name in BITS
           for either in (False, True)),
         'dir 0', 'dir 1', 'dir 2',
-        *(f'number of {digits} digits' for digits in range(1, 5))]
+        *(f'number of {digits} digits' for digits in range(1, 5)),
+        *reach_seen.wanted('window program')]
 
 
 def report(seen: Counter) -> None:
     for what in ('refused 5', 'refused 6', 'refused 8', 'window refused 2',
                  'window refused 4', 'nothing', 'trip', 'diff', 'mho', 'dir',
-                 'number of'):
+                 'number of', 'second reach'):
         kinds = {kind: seen[kind] for kind in seen if what in kind}
         print(f'{what}: {sum(kinds.values())}, {len(kinds)} kinds')
     archive.stop_at([f'{what}: never seen' for what in wanted()
@@ -190,6 +191,7 @@ def main() -> None:
                         text, b'', 0):
                     sys.exit(difference(found, text))
                 seen.update(shown(text))
+                seen.update(reach_seen.of_run(found.data, text))
                 total += 1
     report(seen)
     print(f'window program: {total} runs agree, {given.count} of them on '

@@ -13,14 +13,13 @@ LIMITS = ('zf', 'zr', 'pickup')
 
 
 def close_loops(result: dict) -> Iterator[str]:
-    """What one more or less of the reach would change, loop by loop."""
-    line, by_channel = result['line'], result['phasors']
-    for step in (-1, 1):
-        other = loop_bits(line, line.r + step, by_channel[0:3],
-                          by_channel[3:6])
+    """What one more or less of a reach would change, loop by loop."""
+    zones = seen.zones_on(result['line'])
+    for (setting, bits, r), step in product(zones, (-1, 1)):
+        other = loop_bits(r + step, result['by_loop'])
         for name, bit in BITS.items():
-            if (result['loops'] ^ other) & bit:
-                yield f'{name}: another bit with r changed by {step}'
+            if (result[bits] ^ other) & bit:
+                yield f'{name}: another bit with {setting} changed by {step}'
 
 
 def close_direction(result: dict) -> Iterator[str]:
@@ -33,32 +32,47 @@ def close_direction(result: dict) -> Iterator[str]:
             yield f'another direction with {name} changed by {step}'
 
 
-def why(trip: int, phases: bool, loops: bool, towards: int) -> str:
-    return (f'trip {trip}: phases {phases}, loops {loops}, direction '
-            f'{towards}')
+def why(trip: int, phases: bool, loops: bool, second: bool,
+        towards: int) -> str:
+    return (f'trip {trip}: phases {phases}, loops {loops}, second zone '
+            f'{second}, direction {towards}')
 
 
-def shown(made: Made) -> Iterator[str]:
-    """Of a call that decide answered with 0 or 4."""
-    good, window = made.state[:RECORD], numbers(made.step.samples)
-    result = measure(good, window)
+# ---- Of a call that decide answered with 0 or 4 ----------------------------
+
+def of_line(made: Made) -> Iterator[str]:
+    """All but the differential."""
+    result = measure(made.state[:RECORD], numbers(made.step.samples))
     yield from seen.seen(result)
     if made.wanted.number == 0:
-        trip, phases, loops, towards = made.wanted.other[:4]
-        yield why(trip, phases > 0, loops > 0, towards)
+        trip, phases, loops, towards, second = made.wanted.other[:5]
+        yield why(trip, phases > 0, loops > 0, second > 0, towards)
         yield from close_loops(result)
         yield from close_direction(result)
-        ends, *pair = slope(good)
-        yield from sides.shown(by_phase(window, ends), [tuple(pair)])
 
 
-def wanted() -> list[str]:
+def of_currents(made: Made) -> Iterator[str]:
+    """The differential."""
+    if made.wanted.number == 0:
+        ends, *pair = slope(made.state[:RECORD])
+        yield from sides.shown(by_phase(numbers(made.step.samples), ends),
+                               [tuple(pair)])
+
+
+# ---- What all of them should show ------------------------------------------
+
+def wanted_of_line() -> list[str]:
     return [
-        *(why(int(phases or loops and towards == 1), phases, loops, towards)
-          for phases, loops, towards in product(
-              (True, False), (True, False), range(3))),
-        *(f'{name}: another bit with r changed by {step}'
-          for name, step in product(BITS, (-1, 1))),
+        *(why(int(phases or loops and towards == 1), phases, loops, second,
+              towards)
+          for phases, loops, second, towards in product(
+              (True, False), (True, False), (True, False), range(3))),
+        *(f'{name}: another bit with {setting} changed by {step}'
+          for name, setting, step in product(BITS, seen.ZONES, (-1, 1))),
         *(f'another direction with {name} changed by {step}'
           for name, step in product(LIMITS, (-1, 1))),
-        *seen.wanted(), *sides.wanted()]
+        *seen.wanted()]
+
+
+# What is shown, with what should be.
+PARTS = ((of_line, wanted_of_line), (of_currents, sides.wanted))

@@ -87,7 +87,7 @@ def said(made, got):
     """Of each phase whether it operates, U and the root of 4096 s, by the
     archive's own bytes."""
     out = got[-len(calls.guarded(made.step.other)):][len(calls.BEFORE):]
-    _, bits, _, _, *six = FORM.unpack(out[:DECISION])
+    _, bits, _, _, _, *six = FORM.unpack(out[:DECISION])
     return [(bits & bit > 0, U, root)
             for bit, U, root in zip((1, 2, 4), six[:3], six[3:], strict=True)]
 

@@ -3,9 +3,10 @@ samples; and what all of them together should."""
 import itertools
 from typing import Iterator, Optional
 
-from model.measuring import (A, A2, BITS, T, channel, channels, k_product,
-                             loops, n_and_m, negative_at_scale,
-                             positive_at_scale, squared, sums, times)
+from model.measuring import (A, A2, BITS, T, Line, channel, channels,
+                             k_product, negative_at_scale, positive_at_scale,
+                             squared, sums, times)
+from model.settings import OFF
 
 # ---- What one result shows -------------------------------------------------
 
@@ -42,14 +43,38 @@ def ties(result: dict) -> Iterator[str]:
                 yield f'{name}, {part}: {where}'
 
 
+# Each zone's bits in a result, by the setting that is its reach.
+ZONES = {'r': 'loops', 'r2': 'second zone'}
+
+
+def zones_on(line: Line) -> Iterator[tuple[str, str, int]]:
+    """Of each zone: the setting, the bits, and the reach."""
+    for setting, bits in ZONES.items():
+        if getattr(line, setting) != OFF:
+            yield setting, bits, getattr(line, setting)
+
+
 def loop_sides(result: dict) -> Iterator[str]:
-    line = result['line']
-    v, i = result['phasors'][0:3], result['phasors'][3:6]
-    for loop in loops(line, v, i):
-        n, m = n_and_m(line.Z, loop)
-        sign, side = against(m, 0), against(1000000 * n, line.r * m)
-        yield f'{loop.name}: m {sign} 0, 1000000 n {side} r m'
-        yield f'{loop.name}: {bool(result["loops"] & BITS[loop.name])}'
+    for setting, bits, r in zones_on(result['line']):
+        for name, (n, m) in result['by_loop'].items():
+            sign, side = against(m, 0), against(1000000 * n, r * m)
+            yield f'{name}: m {sign} 0, 1000000 n {side} {setting} m'
+            yield f'{name}: {bool(result[bits] & BITS[name])}, {setting} on'
+            if abs(1000000 * n - r * m) == 1:
+                yield f'{name}: 1000000 n {side} {setting} m by one'
+
+
+def off_sides(result: dict) -> Iterator[str]:
+    """With the second zone off: whether the rule would still hold at 0."""
+    for name, (n, m) in result['by_loop'].items():
+        if result['line'].r2 == OFF and m > 0:
+            yield f'{name}: m > 0, n {against(n, 0)} 0, r2 off'
+
+
+def beside_first(result: dict) -> str:
+    """The second reach beside the first."""
+    r, r2 = result['line'].r, result['line'].r2
+    return 'off' if r2 == OFF else against(r2, r)
 
 
 def direction_sides(result: dict) -> Iterator[str]:
@@ -73,8 +98,8 @@ def seen(result: dict) -> set[str]:
     """What one result shows; one with a missing sample only that."""
     shown = {place_missing(result)}
     if result['missing'] is None:
-        shown.add(f'ends: {result["line"].ends}')
-        shown.update(ties(result), loop_sides(result),
+        shown.add(f'ends: {result["line"].ends}, r2 {beside_first(result)}')
+        shown.update(ties(result), loop_sides(result), off_sides(result),
                      direction_sides(result))
     return shown
 
@@ -91,12 +116,14 @@ def wanted() -> list[str]:
     above_below = ('above', 'below')
     return [
         *all_of('missing: {}', ('none', 'first', 'last', 'elsewhere')),
-        *all_of('ends: {}', range(2, 6 + 1)),
+        *all_of('ends: {}, r2 {}', range(2, 6 + 1), ('off', '=', '>')),
         *all_of('{}, {}: tie {} zero', ('phasor', '3V1', '3V2', '3I2', 'aP',
                 'a²P', 'k product'), parts, above_below),
         *all_of('phasor, {}: one below a tie {} zero', parts, above_below),
-        *all_of('{}: m {} 0, 1000000 n {} r m', BITS, sides, sides),
-        *all_of('{}: {}', BITS, (True, False)),
+        *all_of('{}: m {} 0, 1000000 n {} {} m', BITS, sides, sides, ZONES),
+        *all_of('{}: {}, {} on', BITS, (True, False), ZONES),
+        *all_of('{}: 1000000 n {} {} m by one', BITS, '<>', ZONES),
+        *all_of('{}: m > 0, n {} 0, r2 off', BITS, sides),
         *all_of('|3I2|² {} pickup²', sides),
         *all_of('reaches: {}', (True, False)),
         *all_of('direction {}, reaches: True', (0, 1, 2)),

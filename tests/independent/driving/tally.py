@@ -1,10 +1,11 @@
 """What the compared calls gave, and what all of them together should have given: every answer that documents 01 and 02 allow, every
-bit of a decision both ways, and every side of a rule that a decision can show. What feeds should show beside is in fed_tally.py."""
+bit of a decision both ways, every side of a rule that a decision can show, and every edge of the second reach by every call. What feeds
+should show beside is in fed_tally.py."""
 from collections import Counter
 from itertools import product
 
 from cases.building import ENDS
-from driving import decision_shown
+from driving import decision_shown, reach_seen
 from model.measuring import BITS, channels, length, line
 from model.settings import ANSWERS, RECORD
 
@@ -39,38 +40,47 @@ def missing(call, ends):
 
 
 def bits(decision):
-    """Bytes 0 to 3 of a decision."""
-    trip, phases, loops, direction = decision[:4]
+    """Bytes 0 to 4 of a decision."""
+    trip, phases, loops, direction, second = decision[:5]
     yield f'trip {trip}'
     yield f'direction {direction}'
     yield from (f'phase {name}: {phases & bit > 0}' for name, bit in PHASES.items())
-    yield from (f'loop {name}: {loops & bit > 0}' for name, bit in BITS.items())
+    yield from (f'loop {name}: {loops & bit > 0}, in the second zone {second & bit > 0}' for name, bit in BITS.items())
+    yield f'second zone {second > 0}, trip {trip}, direction {direction}'
 
 
 def all_bits():
     yield from ('trip 0', 'trip 1', 'direction 0', 'direction 1', 'direction 2')
-    for kind, names in (('phase', PHASES), ('loop', BITS)):
-        yield from (f'{kind} {name}: {either}' for name in names for either in (False, True))
+    yield from (f'phase {name}: {either}' for name, either in product(PHASES, (False, True)))
+    yield from (f'loop {name}: {first}, in the second zone {second}'
+                for name, first, second in product(BITS, (False, True), (False, True)))
+    yield from (f'second zone {either}, trip {trip}, direction {direction}'
+                for either, trip, direction in product((False, True), range(2), range(3)))
 
 
 class Tally:
     def __init__(self):
         self.calls, self.answers, self.bits = Counter(), Counter(), Counter()
-        self.sides = set(decision_shown.wanted())
-        self.unseen = set(self.sides)  # those that no decide has shown yet
-        self.looked = 0                # decides until all were shown
+        # What no decide has shown yet, and how many decides were looked at until all was shown.
+        self.sides = [(shown, set(wanted())) for shown, wanted in decision_shown.PARTS]
+        self.looked = 0
+        # The edges of the second reach that no call has shown yet.
+        self.reaches = {call: set(reach_seen.wanted(call)) for call in (*ANSWERS, *AT_0)}
 
     def add(self, made):
         self.calls[made.step.call] += 1
         self.answers[answer(made)] += 1
+        if self.reaches[made.step.call]:
+            self.reaches[made.step.call].difference_update(reach_seen.shown(made))
         if made.step.call != 'decide':
             return
         if made.wanted.number == 0:
             self.bits.update(bits(made.wanted.other))
-        if self.unseen:
-            self.looked += 1
-            if made.wanted.number in (0, 4):
-                self.unseen.difference_update(decision_shown.shown(made))
+        self.looked += any(unseen for _, unseen in self.sides)
+        if made.wanted.number in (0, 4):
+            for shown, unseen in self.sides:
+                if unseen:
+                    unseen.difference_update(shown(made))
 
     def report(self):
         """How often each answer and each bit was seen; gives what is at fault."""
@@ -83,8 +93,12 @@ class Tally:
             seen = [found[place] for place in places if found[place]]
             print(f'{call} 4, {ends} ends: {sum(seen)}, at {len(seen)} of {length(ends)} places')
             allowed, wanted = allowed + places, wanted + edges
-        seen = len(self.sides) - len(self.unseen)
-        print(f'sides of the rules: {seen} of {len(self.sides)}, seen in the first {self.looked} decides')
-        yield from (f'{what}: never seen' for what in [*wanted, *sorted(self.unseen)] if what in self.unseen or not found[what])
+        sides = sum(len(wanted()) for _, wanted in decision_shown.PARTS)
+        unseen = set().union(*(unseen for _, unseen in self.sides))
+        print(f'sides of the rules: {sides - len(unseen)} of {sides}, seen in the first {self.looked} decides')
+        print('edges of the second reach: ' + ', '.join(
+            f'{call} {len([*reach_seen.wanted(call)]) - len(unseen)}' for call, unseen in self.reaches.items()))
+        unseen.update(*self.reaches.values())
+        yield from (f'{what}: never seen' for what in [*wanted, *sorted(unseen)] if what in unseen or not found[what])
         yield from (f'{what} is no answer of documents 01 and 02' for what in sorted(set(self.answers) - set(allowed)))
         yield from (f'{what} is nothing that a decision can say' for what in sorted(set(self.bits) - set(all_bits())))

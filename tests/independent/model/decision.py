@@ -1,5 +1,5 @@
 """The rules of document 01 for decide: what it refuses, in its order, and the
-decision record.
+decision record, with byte 4 of document 02, CR 2.
 
 Comments in quotes are the document's own sentences.
 """
@@ -8,23 +8,24 @@ import struct
 from typing import NamedTuple, Optional
 
 from model.differential import by_phase, phases_operating
-from model.measuring import (FORWARD, channel, direction, first_missing,
-                             length, line, loop_bits, negative, numbers,
-                             phasor)
+from model.measuring import (FORWARD, by_loop, channel, direction,
+                             first_missing, length, line, negative, numbers,
+                             phasor, zone_bits)
 from model.settings import IN_FORCE, STATE, absent
 
 # ---- Decision record -------------------------------------------------------
 
 DECISION = 32   # its bytes
-# Bytes 0 to 3; "4 to 7 | zero"; "U of a, b, c, 32-bit big-endian"; "floor of
-# the root of 4096 s, for a, b, c, 32-bit".
-FORM = struct.Struct('>4B4x3I3I')
+# Bytes 0 to 3; CR 2: "Decision byte 4 becomes its six loop bits"; "4 to 7 |
+# zero", from 5; "U of a, b, c, 32-bit big-endian"; "floor of the root of 4096
+# s, for a, b, c, 32-bit".
+FORM = struct.Struct('>5B3x3I3I')
 assert FORM.size == DECISION
 
 
 def trip(phases: int, loops: int, towards: int) -> int:
     # "trip: 1 if any phase operates, or direction is forward and any loop
-    # asserts; else 0"
+    # asserts; else 0". Of the second zone CR 2 says: "It does not trip."
     return int(phases != 0 or (towards == FORWARD and loops != 0))
 
 
@@ -36,10 +37,10 @@ def decision_record(record: bytes, samples: list[int]) -> bytes:
     v = [phasor(channel(samples, given.ends, index)) for index in range(3)]
     i = [phase.phasors[0] for phase in phases]
     operating = phases_operating(record, phases)
-    asserting = loop_bits(given, given.r, v, i)
+    first, second = zone_bits(given, by_loop(given, v, i))
     towards = direction(given, negative(*v), negative(*i))
-    return FORM.pack(trip(operating, asserting, towards), operating,
-                     asserting, towards, *(phase.U for phase in phases),
+    return FORM.pack(trip(operating, first, towards), operating, first,
+                     towards, second, *(phase.U for phase in phases),
                      *(phase.differential for phase in phases))
 
 

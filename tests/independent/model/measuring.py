@@ -1,5 +1,5 @@
 """The rules of document 01 for phasors, direction and mho loops, in its order
-and words.
+and words, with the second zone of document 02, CR 2.
 
 All arithmetic is in whole numbers; only the table of cosines is computed and
 then rounded. Comments in quotes are the document's own sentences.
@@ -7,7 +7,7 @@ then rounded. Comments in quotes are the document's own sentences.
 import math
 from typing import NamedTuple, Optional
 
-from model.settings import FIELDS, first_fault
+from model.settings import FIELDS, OFF, first_fault
 
 
 # ---- Complex numbers of two whole numbers ----------------------------------
@@ -69,6 +69,7 @@ class Line(NamedTuple):
     zf: int      # "forward limit zf, reverse limit zr (signed)"
     zr: int
     pickup: int  # "pickup of 3I2, counts"
+    r2: int = OFF   # the second reach
 
 
 def line(record: bytes) -> Line:
@@ -79,7 +80,7 @@ def line(record: bytes) -> Line:
                                    signed=field.signed) for field in FIELDS}
     return Line(ends=at[0], Z=Phasor(at[6], at[8]), r=at[10],
                 k=Phasor(at[12], at[14]), D=Phasor(at[16], at[18]),
-                zf=at[20], zr=at[22], pickup=at[24])
+                zf=at[20], zr=at[22], pickup=at[24], r2=at[26])
 
 
 # ---- Window and phasors ----------------------------------------------------
@@ -282,23 +283,42 @@ def loops(line: Line, v: list[Phasor], i: list[Phasor]) -> list[Loop]:
     ]
 
 
-def n_and_m(line_z: Phasor, loop: Loop) -> tuple[int, int]:
+class NM(NamedTuple):
+    """What a loop is judged by, at any reach."""
+    n: int
+    m: int
+
+
+def n_and_m(line_z: Phasor, loop: Loop) -> NM:
     # "With n = Re(V Vp*) and m = Re(Z I Vp*), Z in thousandths"
     n = times(loop.v, conjugate(loop.vp)).re
     m = times(times(line_z, loop.i), conjugate(loop.vp)).re
-    return n, m
+    return NM(n, m)
 
 
-def asserts(line_z: Phasor, r: int, loop: Loop) -> bool:
+def by_loop(line: Line, v: list[Phasor], i: list[Phasor]) -> dict[str, NM]:
+    """n and m of the six loops, by name."""
+    return {loop.name: n_and_m(line.Z, loop) for loop in loops(line, v, i)}
+
+
+def asserts(r: int, loop: NM) -> bool:
     # "the loop asserts exactly when m > 0 and 1000000 n <= r m"
-    n, m = n_and_m(line_z, loop)
-    left, right = fits(1000000 * n), fits(r * m)
-    return m > 0 and left <= right
+    left, right = fits(1000000 * loop.n), fits(r * loop.m)
+    return loop.m > 0 and left <= right
 
 
-def loop_bits(line: Line, r: int, v: list[Phasor], i: list[Phasor]) -> int:
-    return sum(BITS[loop.name] for loop in loops(line, v, i)
-               if asserts(line.Z, r, loop))
+def loop_bits(r: int, of_loops: dict[str, NM]) -> int:
+    """The loops that assert at this reach."""
+    return sum(BITS[name] for name, loop in of_loops.items()
+               if asserts(r, loop))
+
+
+def zone_bits(line: Line, of_loops: dict[str, NM]) -> tuple[int, int]:
+    """The loop bits of the first zone and of the second."""
+    first = loop_bits(line.r, of_loops)
+    # Document 02, CR 2: "0 is off". "Records from before read as off."
+    second = 0 if line.r2 == OFF else loop_bits(line.r2, of_loops)
+    return first, second
 
 
 # ---- One window ------------------------------------------------------------
@@ -314,6 +334,8 @@ def measure(record: bytes, numbers: list[int]) -> dict:
     # "Only end 1 is used, here and in the loops."
     v, i = by_channel[0:3], by_channel[3:6]
     v2, i2 = negative(*v), negative(*i)
+    of_loops = by_loop(given, v, i)
+    first, second = zone_bits(given, of_loops)
     return {
         'line': given,
         'numbers': numbers,
@@ -324,5 +346,7 @@ def measure(record: bytes, numbers: list[int]) -> dict:
         'i2': i2,
         'reaches': reaches_pickup(i2, given.pickup),
         'direction': direction(given, v2, i2),
-        'loops': loop_bits(given, given.r, v, i),
+        'by_loop': of_loops,
+        'loops': first,
+        'second zone': second,
     }

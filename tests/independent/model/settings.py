@@ -1,5 +1,5 @@
-"""The rules of document 01 for settings, in its order and words, and the parts
-of the relay's state.
+"""The rules of document 01 for settings, in its order and words, with the
+second reach of document 02, CR 2; and the parts of the relay's state.
 
 Each call takes the relay's state and the other lent slice as bytes, and gives
 what it leaves of both. Comments in quotes are the document's own sentences.
@@ -60,8 +60,12 @@ FIELDS = (
     Field(20, 'forward limit zf', -20000, 20000, signed=True),
     Field(22, 'reverse limit zr', -20000, 20000, signed=True),
     Field(24, 'pickup of 3I2', 1, 42000),
+    # Document 02, CR 2: "Settings bytes 26 and 27 become its reach: 0 is off,
+    # else 1 to 2000 and not below the first reach."
+    Field(26, 'second reach', 0, 2000),
 )
-SPARE = range(26, 31 + 1)              # "26 to 31 | zero bytes | 0"
+OFF = 0                                # a second reach that is off
+SPARE = range(28, 31 + 1)              # "26 to 31 | zero bytes | 0", from 28
 SQUARES = range(998000, 1002000 + 1)   # "sum of squares 998000 to 1002000"
 
 
@@ -81,6 +85,9 @@ def first_fault(record: bytes) -> Optional[int]:
             return 18
         if field.at == 22 and not passed[20] < passed[22]:
             return 22
+        # CR 2: "Refusals: 6 at 26 in the offset order."
+        if field.at == 26 and passed[26] != OFF and passed[26] < passed[10]:
+            return 26
     # "A nonzero spare byte is at its own offset."
     for at in SPARE:
         if record[at] != 0:
