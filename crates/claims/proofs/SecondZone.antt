@@ -1,20 +1,20 @@
 -- The second zone has what the first has, since its reach is not below; all that a decision says but byte 4 is read from the other bytes of
 -- the record; and a second reach of zero is two spare bytes.
-use Prim.Native.Nat.{ℕ, zero, suc, _+_, _<_}
+use Prim.Native.Nat.{ℕ, zero, suc, _+_}
 use mathlib.Core.Path.{_≡_, refl, sym, ap, _∙_}
 use mathlib.Core.Logic.{⊎-elim}
 use mathlib.Core.List.{List, [], _∷_, _++_}
 use mathlib.Core.Bool.{Bool, true, false, cond, false≢true}
 use native.Mathlib.Omega.{arith}
 use borrow.Author.Needs.{needs}
-use borrow.Author.Tests.{ne-eqb}
-use lib.Dec.{eqb}
+use borrow.Author.Tests.{ne-eqb, leb-true}
+use lib.Dec.{leb}
 use lib.IntN.{ℤ, pos}
 use lib.ListN.{getD, drop}
 use lib.Signed.{_≤ℤ_}
 use Rattle.whole.specs.Bits.{bits}
 use Rattle.whole.proofs.Order.{le-ℤ}
-use Rattle.settings.specs.declared.Checked.the-variants.{Good, Bad}
+use Rattle.settings.specs.declared.Checked.the-variants.{Bad}
 use Rattle.settings.specs.Record.{fieldAt}
 use Rattle.settings.specs.Table.{Rule, Byte, offsetOf, differentialRows, distanceRows, angleRows, directionRows, tailRows, spareRows, settingsTable}
 use Rattle.settings.specs.Check.{holds, checkedBy, checked}
@@ -25,7 +25,7 @@ use Rattle.distance.specs.Direction.{reachesPickup, directionOf}
 use Rattle.distance.specs.Mho.{asserts, loopBits}
 use Rattle.distance.proofs.Laws.{larger-reach}
 use Rattle.decision.specs.declared.Findings.{Findings}
-use Rattle.decision.specs.Decision.{findings, decisionLength, decisionBytes, decision}
+use Rattle.decision.specs.Decision.{findings, decisionLength, decisionBytes}
 use Rattle.gorsepetal.proofs.Good.{in-range}
 use Rattle.claims.specs.Bits.{isSet}
 use Rattle.claims.specs.Demand2.{byte}
@@ -77,27 +77,16 @@ but-4 f rest (suc (suc (suc (suc (suc k))))) n = refl
 
 -- every other field is the same in both records
 module _ (s t : List ℕ) (h : SameElsewhere s t) where
-  same-field : (at : ℕ) → at + 1 < 26 → fieldAt s at ≡ fieldAt t at
-  same-field at l = rw (h at (λ e. omega arith) (λ e. omega arith), h (at + 1) (λ e. omega arith) (λ e. omega arith))
+  same-field : (at : ℕ) → leb (at + 2) 26 ≡ true → fieldAt s at ≡ fieldAt t at
+  same-field at l =
+      let before = leb-true (at + 2) 26 l in
+      rw (h at (λ e. omega arith) (λ e. omega arith), h (at + 1) (λ e. omega arith) (λ e. omega arith))
 
   same-findings : (w : List ℤ) → unlit (findings s w) ≡ unlit (findings t w)
   unfolding findings directionOf reachesPickup
   same-findings w =
-      rw (
-        same-field 0 (omega arith),
-        same-field 2 (omega arith),
-        same-field 4 (omega arith),
-        same-field 6 (omega arith),
-        same-field 8 (omega arith),
-        same-field 10 (omega arith),
-        same-field 12 (omega arith),
-        same-field 14 (omega arith),
-        same-field 16 (omega arith),
-        same-field 18 (omega arith),
-        same-field 20 (omega arith),
-        same-field 22 (omega arith),
-        same-field 24 (omega arith),
-      )
+      rw (same-field 0 refl, same-field 2 refl, same-field 4 refl, same-field 6 refl, same-field 8 refl, same-field 10 refl)
+      (rw (same-field 12 refl, same-field 14 refl, same-field 16 refl, same-field 18 refl, same-field 20 refl, same-field 22 refl, same-field 24 refl))
 
 pub other-bytes-stay : OtherBytesStay
 other-bytes-stay s t w out d e h c b k n =

@@ -1,5 +1,5 @@
--- Document 02, CR 2: the second zone beside the first, and what it does not move. s is the settings record in force, w the window's numbers, and
--- d what the buffer holds after the call.
+-- Document 02, CR 2: the second zone beside the first, and what it does not move. s is the settings record in force, w the window's numbers,
+-- and d what the buffer holds after the call.
 use Prim.Native.Nat.{ℕ}
 use mathlib.Core.Path.{_≡_}
 use mathlib.Core.List.{List, _∷_, _++_}

@@ -89,7 +89,8 @@ decisionLength = 32
 abbrev pub word : ℕ → List ℕ
 word n = n / 16777216 ∷ n / 65536 % 256 ∷ n / 256 % 256 ∷ n % 256 ∷ []
 
--- bytes 0 to 3, byte 4 (document 02, CR 2: "Decision byte 4 becomes its six loop bits"), 5 to 7 zero, "U of a, b, c", and "floor of the root of 4096 s, for a, b, c"
+-- bytes 0 to 3; "Decision byte 4 becomes its six loop bits" (document 02, CR 2), 5 to 7 zero; "U of a, b, c", and "floor of the root of
+-- 4096 s, for a, b, c"
 abbrev pub decisionBytes : Findings → List ℕ
 decisionBytes f =
     trip (f .operating) (f .asserting) (f .direction) ∷ f .operating ∷ f .asserting ∷ directionNumber (f .direction)

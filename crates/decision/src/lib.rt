@@ -48,7 +48,8 @@ pub fn window_length(s: &[u8]) -> usize
     samples::FRAMES * samples::channels(settings::fields::ends(s) as usize)
 }
 
-// The loops that assert in each zone, at the reaches in force, from the voltages and the currents of end 1: none in the second where it is off.
+// The loops that assert in each zone, at the reaches in force, from the voltages and the currents of end 1. In the second zone none does
+// where it is off.
 fn zones(s: &[u8], v: Phases, i: Phases) -> ZoneBits
     requires { ⌜ Ranges (now s) × AllInside phasorSize v × AllInside phasorSize i ⌝ }
     ensures { λ r. ⌜ (r .first ≡ assertingBits (now (s .entry)) (loopsAt (now (s .entry)) v i)) × (r .second ≡ overreachingBits (now (s .entry)) (loopsAt (now (s .entry)) v i)) ⌝ }

@@ -32,7 +32,7 @@ pub struct SixLoops {
     pub ca: Loop,
 }
 
-// n and m of a loop. The loop asserts at a reach of n over m, and beyond.
+// n and m of a loop. Where m is positive, the loop asserts from a reach of 1000000 n over m on.
 pub struct Ratio {
     pub n: i64,
     pub m: i64,

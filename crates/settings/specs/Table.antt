@@ -131,7 +131,8 @@ limitsOrderRow = Below (offsetOf forwardLimitRow) (offsetOf reverseLimitRow)
 abbrev pub negativeSequencePickupRow : Rule
 negativeSequencePickupRow = Unsigned 24 1 mostCounts
 
--- second reach, thousandths of the replica: "0 is off, else 1 to 2000 and not below the first reach" (document 02, CR 2); the first is 1 at least
+-- second reach, thousandths of the replica: "0 is off, else 1 to 2000 and not below the first reach" (document 02, CR 2). The first is 1 at
+-- least.
 abbrev pub secondReachRow : Rule
 secondReachRow = OffOrFrom (offsetOf reachRow) 26 mostReach
 

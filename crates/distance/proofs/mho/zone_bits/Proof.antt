@@ -4,7 +4,7 @@ use mathlib.Core.List.{[], _∷_}
 use mir.Facts.{toZ-ofZ}
 use Rattle.whole.specs.Bits.{bits}
 use Rattle.whole.proofs.Size.{along}
-use Rattle.distance.specs.Mho.{asserts, loopBits}
+use Rattle.distance.specs.Mho.{loopBits}
 use Rattle.distance.proofs.mho.zone_bits.Statement.{statement}
 use Rattle.distance.proofs.mho.zone_bits.Tie as tie
 
