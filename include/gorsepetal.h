@@ -206,9 +206,9 @@
 **
 ** The mho rule uses the products r x Z and r2 x Z and nothing else of the three. Where Z1 comes to
 ** more than 20000, enter half of it as Z and twice the r: 1640 with Z1 / 2 is 820 with Z1. But r2
-** ends at 2000, which with Z1 / 2 is 1000 with Z1 and no overreach. With 0.6 Z1 it is 1200 with Z1.
-** Where r2 would come to more than 2000, enter a larger Z, and a smaller r and r2. A zf or zr
-** beyond 20000 is entered as 20000, with its sign.
+** ends at 2000, which with Z1 / 2 is 1000 with Z1 and no overreach. With 0.6 Z1 it is 1200 with Z1,
+** and r is then 1367 in place of 820. Where r2 would come to more than 2000, enter a larger Z, and
+** a smaller r and r2. A zf or zr beyond 20000 is entered as 20000, with its sign.
 **
 ** WARNING. No range can tell one unit from another. With cv / ci = 1/2 a replica entered in
 ** thousandths of an ohm is twice as large as it should be: propose and confirm both answer 0, and
@@ -219,11 +219,12 @@
 ** TESTS AT THE PANEL
 **
 ** With a test set at end 1, the settings in force, and the other ends sending zeros: three voltages
-** of magnitude E at their usual angles, but Va smaller; current Ia on phase a alone. All in
-** secondary volts, amperes and ohms, with Z1 and k of the line, and r and r2 as fractions. The
-** differential trips throughout: look at bytes 2, 3 and 4 of the decision, not at byte 0.
+** of magnitude E at their usual angles, but Va smaller; current Ia on phase a alone, small enough
+** for that. All in secondary volts, amperes and ohms, with Z as it was entered (Z1, unless UNITS
+** had you enter a part of it), k of the line, and r and r2 as fractions. The differential trips
+** throughout: look at bytes 2, 3 and 4 of the decision, not at byte 0.
 **
-**   - Reach: Ia behind Va by the angle of Z1 (1 + k), and Va = f x r x |Z1 (1 + k)| x Ia.
+**   - Reach: Ia behind Va by the angle of Z (1 + k), and Va = f x r x |Z (1 + k)| x Ia. In byte 2
 **     GORSEPETAL_LOOP_AG has to be set at f = 0.95 and not at f = 1.05.
 **   - Second reach, if it is not 0: the same with r2 for r. In byte 4 GORSEPETAL_LOOP_AG has to be
 **     set at f = 0.95 and not at f = 1.05. In byte 2 it has to be clear at both, if 0.95 r2 is
@@ -289,14 +290,16 @@
 **        that seems FARTHEST. A fault there is seen at
 **             Zs = Zt + Zx (1 + Io / I1)
 **        where Zt leads to the tee and Zx from there to that end, I1 is the current of end 1 and Io
-**        that of the ends that are neither. Take Io / I1 at its largest: the weakest source behind
-**        end 1, the strongest at the others, and the sequence, positive or zero, in which it is
-**        larger. Then r2 is 1200 x |Zs| / |Z| or more. The 200 above 1000 are for the errors of
-**        transformers and of line data. Where that is above 2000, see UNITS.
-**        The lamp must not light under load. All six loops see a load at V / I, and they assert if
-**        this is not above r2 x |Z| x cos(line angle - load angle). Here r2 is a fraction, and the
-**        load angle is that by which the current is behind the voltage. So V / I has to be larger
-**        than this at the largest load and the lowest voltage.
+**        that of all ends but these two. Take Io / I1 at its largest: the weakest source behind end
+**        1, the strongest at the others, and the sequence, positive or zero, in which it is larger.
+**        Then r2 is 1200 x |Zs| / |Z| or more. The 200 above 1000 are for the errors of
+**        transformers and of line data. Where the angle of Zs is not that of Z, divide by the
+**        cosine of the difference. Where r2 comes to more than 2000, see UNITS.
+**        The lamp must not light under load. All six loops see a load at V / I, V from phase to
+**        ground, and they assert if this is not above r2 x |Z| x cos(line angle - load angle). Here
+**        r2 is a fraction, and the load angle is that by which the current is behind the voltage.
+**        So V / I has to be larger than this at the largest load and the lowest voltage. Where r2
+**        cannot do both, the load decides: a lamp that is lit under load tells nothing.
 **
 ** CONVENTIONS
 **
@@ -406,6 +409,7 @@
 **     switch (GORSEPETAL_NUMBER(given)) {
 **     case GORSEPETAL_DONE:               (decided, on this frame and the 15 before it)
 **       trip(out[GORSEPETAL_DECISION_AT_TRIP]);
+**       lamp(out[GORSEPETAL_DECISION_AT_SECOND_ZONE] != 0);
 **       break;
 **     case GORSEPETAL_TOO_FEW_FRAMES:     (kept: the window fills)
 **     case GORSEPETAL_MISSING_SAMPLE:     (kept: GORSEPETAL_PLACE(given) says which is missing)
@@ -427,7 +431,7 @@
 ** DECISION
 **
 ** 32 bytes, GORSEPETAL_DECISION_LENGTH. U is the restraint of a phase and s the squared magnitude
-** of its differential; the next section has the formulas. U and the root of 4096 s are both in
+** of its differential; RULES has the formulas. U and the root of 4096 s are both in
 ** sixty-fourths of a count.
 **
 **   bytes      content
@@ -446,11 +450,10 @@
 **
 ** THE SECOND ZONE
 **
-** Byte 4 has the six loops of byte 2 at the second reach, r2. It is for a lamp on the panel. It
-** does not trip: byte 0 and all other bytes are the same at every r2. It has no timer.
-**
-**   trip(out[GORSEPETAL_DECISION_AT_TRIP]);
-**   lamp(out[GORSEPETAL_DECISION_AT_SECOND_ZONE] != 0);
+** Byte 4 has the six loops of byte 2 at the second reach, r2. It is for a lamp on the panel, which
+** is lit after an answer of 0 if byte 4 is not 0. It does not trip: byte 0 and all other bytes are
+** the same at every r2. It has no timer. After a refusal out still holds the decision before; what
+** the lamp does then is the firmware's matter.
 **
 ** r2 is not below r. So where the second zone is on, a loop that asserts in byte 2 asserts in
 ** byte 4 too:
@@ -461,11 +464,13 @@
 **   not 0    not 0    a fault within r
 **   not 0    0        a fault within r; r2 is 0, and the second zone is off
 **
-** It goes by no direction: that is byte 3. So it shows a balanced three-phase fault too, and, under
+** Byte 4 does not tell which phases have the fault: at a larger reach other loops see it too. It
+** goes by no direction: that is byte 3. So it shows a balanced three-phase fault too, and, under
 ** load, a voltage that is lost to a blown fuse. Of a fault BEHIND the relay it shows this:
 **
-**   - The loops of the phases that have the fault, if it is solid, do not assert: their m is
-**     negative.
+**   - The loops of the phases that have the fault, if it is solid and the far ends feed it, do not
+**     assert: their m is negative. If no far end has a source or an earthed neutral, load may flow
+**     in on these phases. Then m is positive and n is 0, and they assert in both zones.
 **   - A ground loop of another phase may, since E makes its m positive. On a line of two ends, with
 **     Z = Z1, its own k and little load, it sees the fault at about 3 Z or farther, and no r2
 **     reaches that. With more ends, strong sources beyond a near tee can bring it within r2.
@@ -473,8 +478,9 @@
 **     heavy load was flowing in from the far ends. Its direction is none, so distance does not
 **     trip.
 **
-** A lamp that has to stay dark in the second case is lit only if byte 3 is not
-** GORSEPETAL_DIRECTION_REVERSE. In the third nothing here can tell.
+** A lamp that has to stay dark in the first two cases is lit only if byte 3 is not
+** GORSEPETAL_DIRECTION_REVERSE, which takes a 3I2 at its pickup. In the third nothing here can
+** tell.
 **
 ** RULES
 **
@@ -547,19 +553,20 @@
 **
 **   01 01 01 01 01 00 00 00 00 00 C9 09 00 00 00 00 00 00 00 00 00 00 C9 07 00 00 00 00 00 00 00 00
 **
-** Then a fault beyond the line: Va (1800, 0), Ia of end 2 (-110, 590), and all else as above. What
-** flows in at end 1 flows out at end 2.
+** Then a fault beyond the line: Va (1800, 0), Ia of end 1 (83, -444), Ia of end 2 (-83, 444), and
+** all else as above. What flows in at end 1 flows out at end 2.
 **
-**   3V1 = (5800, 0)   3V2 = (-200, 0)   T = -120070000, below -81045000: forward
-**   AG: n = 10440000   m = 11562880000
-**       10440000000000 > 800 m = 9250304000000: does not assert
-**       10440000000000 <= 1500 m = 17344320000000: asserts in the second zone
-**   phase a: s = 0; U = 38411 + 38411 = 76822
+**   3V1 = (5800, 0)   3V2 = (-200, 0)   3I2 = (83, -444)   |3I2|^2 = 204025
+**   T = -90366400, below -225 x 204025 = -45905625: forward
+**   AG: n = 10440000   m = 8704640000, so it seems to lie at 1199 thousandths of Z
+**       10440000000000 > 800 m = 6963712000000: does not assert
+**       10440000000000 <= 1500 m = 13056960000000: asserts in the second zone
+**   phase a: s = 0; U = 28909 + 28909 = 57818
 **
 ** The direction is forward, and no loop but AG asserts in the second zone. There is no trip. The
 ** lamp is lit:
 **
-**   00 00 00 01 01 00 00 00 00 01 2C 16 00 00 00 00 00 00 00 00 00 00 00 00 00 00 00 00 00 00 00 00
+**   00 00 00 01 01 00 00 00 00 00 E1 DA 00 00 00 00 00 00 00 00 00 00 00 00 00 00 00 00 00 00 00 00
 **
 ** OUTSIDE THE LIBRARY
 **
@@ -571,7 +578,8 @@
 **
 ** What a decision cannot tell:
 **   - A balanced three-phase fault has no negative sequence, so its direction is none and distance
-**     cannot trip on it. The differential can, and the loops show it in both zones.
+**     cannot trip on it. The differential can, and the loops show it in the
+**     zones that reach it.
 **   - Where the polarising quantity Vp is zero, as in a fault next to the relay with all three
 **     voltages gone, no loop asserts, in either zone. A voltage that is lost to a blown fuse looks
 **     like a fault to the loops; it trips only if the direction is forward too, which takes a 3I2

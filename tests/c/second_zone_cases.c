@@ -194,6 +194,20 @@ static void second_zone_at_its_edge(void) {
     }
 }
 
+/* The same fault farther away, which docs/HAND-CHECKS.md works out too: AG asserts from 960, beyond the first reach. Forward, and no trip. */
+static void fault_beyond_the_first_zone(void) {
+  static const int seconds[][2] = {{OFF, 0}, {850, 0}, {959, 0}, {960, 1}, {1200, 1}, {MOST, 1}};
+  uint8_t window[WINDOW];
+  fault_on(window, 0, 1, 1);
+  phasor(window, 0, 1600, 0);
+  for (int c = 0; c < CALLS; c++)
+    for (size_t k = 0; k < sizeof seconds / sizeof *seconds; k++) {
+      uint8_t wanted[DECISION] = {0, 0, 0, 1, (uint8_t)seconds[k][1], 0, 0, 0, 0, 0x01, 0xF4, 0x00};
+      calls[c].decided(window, 850, seconds[k][0]);
+      out_is(calls[c].name, wanted);
+    }
+}
+
 /* The faults ahead, each by the name of its loop: at a reach that sees none, the second zone does, and nothing trips. */
 static void each_loop_in_the_second_zone(void) {
   static const int loops[2][3] = {{GORSEPETAL_LOOP_BC, GORSEPETAL_LOOP_CA, GORSEPETAL_LOOP_AB},
@@ -307,6 +321,7 @@ const struct test_case second_zone_cases[] = {
     {"stored second reach out of range", stored_second_reach_out_of_range},
     {"second zone off", second_zone_off},
     {"second zone at its edge", second_zone_at_its_edge},
+    {"fault beyond the first zone", fault_beyond_the_first_zone},
     {"each loop in the second zone", each_loop_in_the_second_zone},
     {"same rule in both zones", same_rule_in_both_zones},
     {"other bytes stay", other_bytes_stay},

@@ -139,11 +139,13 @@ def steps_beyond(text, first, record, r2):
     w = worked_out(record, phasors)
     n, m = measuring.n_and_m(w.line.Z, w.loops['AG'])
     s, u = measuring.squared(measuring.plus(*w.currents)), [math.isqrt(4096 * measuring.squared(i) - 1) + 1 for i in w.currents]
-    if [*w.decided[:5]] != [0, 0, 0, 1, measuring.BITS['AG']]:
-        faults.append(f'{HEADER}: the fault beyond the line is not one that AG sees in the second zone alone, without a trip')
+    square = measuring.squared(w.i2)
+    if [*w.decided[:5]] != [0, 0, 0, 1, measuring.BITS['AG']] or 1000000 * n <= 1000 * m:
+        faults.append(f'{HEADER}: the fault beyond the line is not one that AG sees beyond Z, in the second zone alone, without a trip')
     return [
-        f'3V1 = {shown(w.v1)} 3V2 = {shown(w.v2)} T = {w.T}, below {w.line.zf * measuring.squared(w.i2)}: forward',
-        f'AG: n = {n} m = {m} {compared(n, w.line.r, m)}: does not assert {compared(n, r2, m)}: asserts in the second zone',
+        f'3V1 = {shown(w.v1)} 3V2 = {shown(w.v2)} 3I2 = {shown(w.i2)} |3I2|^2 = {square}',
+        f'T = {w.T}, below {w.line.zf} x {square} = {w.line.zf * square}: forward',
+        f'AG: n = {n} m = {m}, so it seems to lie at {1000000 * n // m} thousandths of Z {compared(n, w.line.r, m)}: does not assert {compared(n, r2, m)}: asserts in the second zone',
         f's = {s}; U = {u[0]} + {u[1]} = {int.from_bytes(w.decided[8:12], "big")}', w.decided.hex(' ').upper(),
     ]
 
@@ -217,7 +219,7 @@ def check_tests():
     wrong = right[:6] + bytes.fromhex('03200FA0') + right[10:20] + bytes.fromhex('FE3E0514') + right[24:]
     text = plain('TESTS AT THE PANEL')
     of_reach = 'GORSEPETAL_LOOP_AG has to be set at f = 0.95 and not at f = 1.05'
-    tests = ((reach, f'|Z1 (1 + k)| x Ia. {of_reach}', {0.95: 1, 1.05: 0}),
+    tests = ((reach, f'|Z (1 + k)| x Ia. In byte 2 {of_reach}', {0.95: 1, 1.05: 0}),
              (second_reach, f'In byte 4 {of_reach}. In byte 2 it has to be clear at both', {0.95: (0, 1), 1.05: (0, 0)}),
              (forward, 'The direction has to be forward at f = 1.05 and none at f = 0.95', {1.05: 1, 0.95: 0}),
              (reverse, 'The direction has to be reverse at f = 1.05 and none at f = 0.95', {1.05: 2, 0.95: 0}))

@@ -41,14 +41,14 @@ abbrev pub through : List Complex → List Complex → List ℕ → Worked
 through v i bytes =
     record { settings = exampleRecord; phasors = v ++ i ++ map (λ p. (negated 1 *ℤ p .0, negated 1 *ℤ p .1)) i; bytes = bytes }
 
--- AG ahead, and farther away than the first reach, with a second reach
-abbrev pub farther : ℕ → List ℕ → Worked
-farther r bytes =
-    record {
-      settings = changed exampleRecord (offsetOf secondReachRow) r;
-      phasors = (pos 1600, pos 0) ∷ (negated 1000, negated 1732) ∷ (negated 1000, pos 1732) ∷ (pos 0, negated 1000) ∷ none ∷ none ∷ (pos 0, pos 1000) ∷ none ∷ none ∷ [];
-      bytes = bytes;
-    }
+-- AG ahead, and farther away than the first reach
+abbrev pub farther : List ℕ → Worked
+farther bytes =
+    through ((pos 1600, pos 0) ∷ (negated 1000, negated 1732) ∷ (negated 1000, pos 1732) ∷ []) ((pos 0, negated 1000) ∷ none ∷ none ∷ []) bytes
+
+-- with a second reach
+abbrev pub zoned : ℕ → Worked → Worked
+zoned r x = record { settings = changed (x .settings) (offsetOf secondReachRow) r; phasors = x .phasors; bytes = x .bytes }
 
 abbrev pub worked : List Worked
 worked =
@@ -66,10 +66,13 @@ worked =
     ∷ through ((pos 2000, pos 0) ∷ (negated 1000, negated 300) ∷ (negated 1000, pos 300) ∷ []) (none ∷ (negated 500, pos 0) ∷ (pos 500, pos 0) ∷ []) (1 ∷ 0 ∷ 16 ∷ 1 ∷ 0 ∷ [])
     ∷ through ((pos 760, pos 716) ∷ (negated 1000, negated 1732) ∷ (pos 240, pos 1016) ∷ []) ((negated 250, negated 433) ∷ none ∷ (pos 250, pos 433) ∷ []) (1 ∷ 0 ∷ 32 ∷ 1 ∷ 0 ∷ [])
     -- the second zone off, one short of the fault, at it, and at its limit: forward, and no trip
-    ∷ farther 0 (0 ∷ 0 ∷ 0 ∷ 1 ∷ 0 ∷ [])
-    ∷ farther 959 (0 ∷ 0 ∷ 0 ∷ 1 ∷ 0 ∷ [])
-    ∷ farther 960 (0 ∷ 0 ∷ 0 ∷ 1 ∷ 1 ∷ [])
-    ∷ farther 2000 (0 ∷ 0 ∷ 0 ∷ 1 ∷ 1 ∷ [])
+    ∷ zoned 0 (farther (0 ∷ 0 ∷ 0 ∷ 1 ∷ 0 ∷ []))
+    ∷ zoned 959 (farther (0 ∷ 0 ∷ 0 ∷ 1 ∷ 0 ∷ []))
+    ∷ zoned 960 (farther (0 ∷ 0 ∷ 0 ∷ 1 ∷ 1 ∷ []))
+    ∷ zoned 2000 (farther (0 ∷ 0 ∷ 0 ∷ 1 ∷ 1 ∷ []))
+    -- BG and BC as far away
+    ∷ zoned 1200 (through ((pos 2000, pos 0) ∷ (negated 800, negated 1386) ∷ (negated 1000, pos 1732) ∷ []) (none ∷ (negated 866, pos 500) ∷ none ∷ []) (0 ∷ 0 ∷ 0 ∷ 1 ∷ 2 ∷ []))
+    ∷ zoned 1200 (through ((pos 2000, pos 0) ∷ (negated 1000, negated 480) ∷ (negated 1000, pos 480) ∷ []) (none ∷ (negated 500, pos 0) ∷ (pos 500, pos 0) ∷ []) (0 ∷ 0 ∷ 0 ∷ 1 ∷ 16 ∷ []))
     ∷ []
 
 -- One claim over all of them.
