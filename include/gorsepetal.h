@@ -470,7 +470,8 @@
 **
 **   - The loops of the phases that have the fault, if it is solid and the far ends feed it, do not
 **     assert: their m is negative. If no far end has a source or an earthed neutral, load may flow
-**     in on these phases. Then m is positive and n is 0, and they assert in both zones.
+**     in on these phases. Then m is positive, and if the fault is close by, n is next to 0 and they
+**     assert in both zones.
 **   - A ground loop of another phase may, since E makes its m positive. On a line of two ends, with
 **     Z = Z1, its own k and little load, it sees the fault at about 3 Z or farther, and no r2
 **     reaches that. With more ends, strong sources beyond a near tee can bring it within r2.

@@ -14,14 +14,14 @@ use Rattle.plane.specs.declared.Phasor.{Phasor}
 use Rattle.phasors.specs.Grid.{current}
 use Rattle.settings.specs.Fields.{ends, slope, pickup, reach, secondReach}
 use Rattle.distance.specs.Sequence.{negativeSequence}
-use Rattle.distance.specs.Constants.{replica, compensation}
+use Rattle.distance.specs.Constants.{replica}
 use Rattle.distance.specs.declared.mho.Loop.{Loop}
 use Rattle.distance.specs.declared.mho.SixLoops.{SixLoops}
-use Rattle.distance.specs.Mho.{loopsOf, ratioOf}
+use Rattle.distance.specs.Mho.{ratioOf}
 use Rattle.distance.specs.Laws.{WithinReach, PickupReached, BelowForward, AboveReverse}
 use Rattle.differential.specs.Differential.{square, restraint, comparison}
 use Rattle.differential.specs.Laws.{OperatesBy}
-use Rattle.decision.specs.Decision.{decisionLength, rateOf, voltages, currentsOfEnd1}
+use Rattle.decision.specs.Decision.{decisionLength, rateOf, voltages, currentsOfEnd1, loopsAt}
 use Rattle.claims.specs.Decisions.{Decision}
 
 -- ---- what document 01 says of a window
@@ -49,7 +49,7 @@ abbrev pub Asserts : List ℕ → ℕ → Loop → Type 0
 Asserts s r l = WithinReach (pos r) (ratioOf (replica s) l)
 
 abbrev pub sixLoops : List ℕ → List ℤ → SixLoops
-sixLoops s w = loopsOf (compensation s) (voltages s w) (currentsOfEnd1 s w)
+sixLoops s w = loopsAt s (voltages s w) (currentsOfEnd1 s w)
 
 -- AG, BG, CG, AB, BC, CA, at the reach r
 abbrev pub loopFacts : List ℕ → List ℤ → ℕ → List (Type 0)

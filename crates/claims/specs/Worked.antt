@@ -1,6 +1,6 @@
 -- Whole decisions, from the samples to bytes 0 to 4: the paper mill's fault at both slopes, a fault on each of the six loops, one behind
--- the relay, and one beyond the first zone. In all but the mill's what flows in at end 1 flows out at end 2. docs/HAND-CHECKS.md works the
--- first and the AG faults out; the other loops' faults are the same ones turned by a third.
+-- the relay, and three beyond the first zone. In all but the mill's what flows in at end 1 flows out at end 2. docs/HAND-CHECKS.md works the
+-- mill's and the AG faults out; the other loops' faults are like these, turned by a third.
 use Prim.Native.Nat.{ℕ}
 use mathlib.Core.Path.{_≡_}
 use mathlib.Core.List.{List, [], _∷_, _++_, map}
