@@ -129,6 +129,17 @@ def square_wave(shift: int) -> list[int]:
     return [LARGEST if (n + shift) % 16 < 8 else -LARGEST for n in range(16)]
 
 
+def farthest() -> list[int]:
+    """Samples with the phasor (34913,23329). None has a larger magnitude.
+
+    Before it is rounded, this square wave's phasor is (34912.93,23328.29).
+    Four less at n=2 make it (34912.58,23328.64), so that both parts round up.
+    The sums of all samples lie in the polygon whose corners are those of the
+    square waves. No phasor within half a count of it has a larger magnitude.
+    """
+    return added(square_wave(5), pulse(-4, 2))
+
+
 def window(by_channel: list[list[int]], ends: int) -> list[int]:
     """The frames of these channels; those not given are zero."""
     by_channel = by_channel + [[0] * 16] * (channels(ends) - len(by_channel))

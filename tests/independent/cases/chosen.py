@@ -4,10 +4,10 @@ here: for decide_cases.py and program_inputs.py.
 fixed() gives the same ones each time, endless(rng) as many more as are wanted.
 """
 import random
-from itertools import cycle
+from itertools import chain, cycle
 from typing import Iterable, Iterator, NamedTuple
 
-from cases import currents, hand_checks, second_zone, trying, windows
+from cases import currents, hand_checks, roots, second_zone, trying, windows
 from cases.building import HIGH, LINE, LOW, any_line, record
 from cases.records import put
 from model.differential import slope
@@ -66,7 +66,7 @@ def once(some: Iterable[Chosen]) -> Iterator[Chosen]:
 
 
 def one_by_one() -> Iterator[Chosen]:
-    for label, on, numbers in hand_checks.of_channel():
+    for label, on, numbers in chain(hand_checks.of_channel(), roots.fixed()):
         yield Chosen(label, record(on), numbers)
     for found in windows.fixed():
         yield Chosen(*found)

@@ -7,7 +7,7 @@ compare.py [--count N] [--feeds M] [--seed S] [--archive PATH]
 It makes N calls at least of the other four functions: all fixed cases, then random ones. Then come M feeds at least, in histories
 with other calls between them, fixed and random too, and an eighth as many of which each is held against a decide. The first difference
 ends it, and so do a hand check of document 01 that the model does not meet, and at the end an answer of documents 01 and 02, a bit of
-a decision or a side of a rule that was not seen.
+a decision, a side of a rule or a kind of root that was not seen.
 """
 import random
 import sys
@@ -23,8 +23,8 @@ from driving.newest import Newest  # noqa: E402
 from driving.tally import Tally  # noqa: E402
 
 BATCH = 10000
-CALLS = 90100   # if nothing is said
-FEEDS = 60000   # the same
+CALLS = 90320   # if nothing is said
+FEEDS = 60220   # the same
 MS = (1, 1000)  # for demand 3
 
 

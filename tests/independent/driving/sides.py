@@ -3,7 +3,7 @@ the sides of each rule, exact and rounded roots, ties; and what all of them
 together should."""
 from typing import Iterator
 
-from cases.building import ENDS, HIGH, LOW, square_wave
+from cases.building import ENDS, HIGH, LOW, farthest
 from cases.hunting import first_band, second_band
 from driving.seen import against, all_of, near_tie
 from model.differential import (Phase, differential, operates, root_down,
@@ -15,8 +15,7 @@ M = 1000    # an m at which the floors hardly count
 
 # ---- What one window shows -------------------------------------------------
 
-# No samples have a phasor of a larger magnitude.
-LARGEST = max(squared(phasor(square_wave(shift))) for shift in range(16))
+LARGEST = squared(phasor(farthest()))   # of an end
 
 
 def roots(phase: Phase) -> Iterator[str]:

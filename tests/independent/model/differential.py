@@ -14,6 +14,9 @@ from model.settings import first_fault
 
 # ---- Whole roots -----------------------------------------------------------
 
+# Document 02, CR 3, has the library work its root out "from the root of a
+# quarter of the number". The way here is another one, and is to stay so.
+
 def root_down(n: int) -> int:
     """The floor of the root: the largest whole number whose square is at most
     n."""
