@@ -16,13 +16,13 @@ typedef struct {
   int flags;
   void (*restorer)(void);
 } action;
-enum { SIGTRAP = 5, SA_SIGINFO = 4, REGISTERS = 40, RSP = 15, RIP = 16 };
+enum { SIGTRAP = 5, SA_SIGINFO = 4, REGISTERS = 40, RDI = 8, RSP = 15, RIP = 16 };
 extern int sigaction(int signal, const action *taken, action *before);
 
 extern const uint8_t __executable_start[], etext[]; /* the linker's: this program's code lies between them */
 
 static uintptr_t first_instruction;
-static volatile int entered, returned;
+static volatile int returned;
 static volatile steps so_far;
 
 /* The function has returned when what its call pushed is popped; nothing before its return does that. */
@@ -31,14 +31,18 @@ static void before_instruction(int signal, void *information, void *context) {
   const uint8_t *stack = (const uint8_t *)registers[RSP], *next = (const uint8_t *)registers[RIP];
   (void)signal;
   (void)information;
-  if (!entered && (uintptr_t)next == first_instruction) {
-    entered = 1;
-    so_far.stack = stack;
+  if (returned) return;
+  if ((uintptr_t)next == first_instruction && so_far.calls++ == 0) {
+    so_far.argument = registers[RDI];
+    so_far.stack = so_far.deepest = stack;
   }
-  if (!entered || returned) return;
-  if (stack > so_far.stack)
+  if (so_far.calls == 0) return;
+  if (stack > so_far.stack) {
     returned = 1;
-  else if (next >= __executable_start && next < etext)
+    return;
+  }
+  if (stack < so_far.deepest) so_far.deepest = stack;
+  if (next >= __executable_start && next < etext)
     so_far.own++;
   else
     so_far.outside++;
@@ -56,8 +60,8 @@ static void clear_trap_flag(void) {
 steps count(void (*call)(void), uintptr_t function) {
   action handling = {before_instruction, {0}, SA_SIGINFO, 0};
   first_instruction = function;
-  entered = returned = 0;
-  so_far.own = so_far.outside = 0;
+  returned = 0;
+  so_far.own = so_far.outside = so_far.calls = 0;
   if (sigaction(SIGTRAP, &handling, 0) == 0) {
     set_trap_flag();
     on_own_stack(call);
@@ -67,5 +71,5 @@ steps count(void (*call)(void), uintptr_t function) {
     printf("instructions cannot be counted here\n");
     exit(1);
   }
-  return (steps){so_far.own, so_far.outside, so_far.stack};
+  return so_far;
 }

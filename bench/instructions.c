@@ -32,11 +32,11 @@ static void decide_line(const char *name, int ends) {
 }
 
 static void decide_table(void) {
-  printf("\nDecide, instructions of one call: those inside the archive or inside plain C, and after the + those that memcpy, memmove and\n");
-  printf("memset of the C library add, for which it has other code on another processor.\n");
+  printf("\nDecide, instructions of one call: those inside the archive or inside plain C, and after the + those that memcpy, memmove\n");
+  printf("and memset of the C library add, for which it has other code on another processor.\n");
   printf("quiet: a balanced load through the line. fault: phase a to ground on the line, fed from all ends. dead: every sample is 0,\n");
-  printf("so that plain C's root in whole numbers, which begins at the highest bit there is, takes no step.\n");
-  printf("plain: the same rules in plain C with a root in whole numbers. double: with the processor's root of a double.\n");
+  printf("so that no root takes a step.\n");
+  printf("plain: the same rules in plain C with a root by bits. double: with the processor's root of a double.\n");
   printf("Then the archive's count divided by that of plain -O3 and of double -O3, rounded up; in the last column with what is\n");
   printf("added.\n\n");
   print_heads(of_decide, "   / plain -O3  / double -O3       all / O3");
@@ -191,8 +191,8 @@ void extent_tables(long windows) {
     print_extents(DECIDE, zone, decide[zone]);
     print_extents(FEED, zone, feed[zone]);
   }
-  printf("\nThe count is bounded: nothing calls itself, and a loop turns once for each end, phase, frame, sample or byte of a\n");
-  printf("record, or once for each bit of one of six widths of the root. How often a loop turns depends on the value of a sample\n");
-  printf("only through that width; besides, it decides some short branches: the pickups and the sign of m. Whether the second zone\n");
-  printf("is on is decided by the record. A missing sample adds a search over the samples, after which the call ends.\n");
+  printf("\nThe count is bounded: a loop turns once for each end, phase, frame, sample or byte of a record. Only the root calls\n");
+  printf("itself, once for each bit of it: at most 26 calls with the first. The value of a sample decides how many, and besides\n");
+  printf("some short branches: the pickups and the sign of m. Whether the second zone is on is decided by the record. A missing\n");
+  printf("sample adds a search over the samples, after which the call ends.\n");
 }

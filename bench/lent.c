@@ -9,6 +9,7 @@ const struct version versions[VERSIONS] = {
     {"plain -O3", &plain_O3, 0},
     {"double -O2", &plain_double_O2, 0},
     {"double -O3", &plain_double_O3, 0},
+    {"quarter -O3", &plain_quarter_O3, 0},
     {"own -O3", &plain_own_O3, 1},
 };
 

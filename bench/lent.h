@@ -15,7 +15,7 @@ enum {
 };
 
 /* The versions, the library's archive first. */
-enum { ARCHIVE, PLAIN_O2, PLAIN_O3, DOUBLE_O2, DOUBLE_O3, OWN_O3, VERSIONS };
+enum { ARCHIVE, PLAIN_O2, PLAIN_O3, DOUBLE_O2, DOUBLE_O3, QUARTER_O3, OWN_O3, VERSIONS };
 extern const struct version {
   const char *name;
   const all_calls *calls;

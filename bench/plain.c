@@ -2,9 +2,10 @@
 ** Document 01, feeding and the second zone, as one would write them in C: tables, 64-bit sums, one quantity after another. It is the
 ** measure for the library's speed and nothing else: its answers are compared with the library's before anything is counted.
 **
-** It is compiled five times, each time under the name PLAIN: at -O2 and at -O3, and with either root. DOUBLE_ROOT takes the processor's
-** square root of a double, which is exact here: every number that a root is taken of is below 2^52. Without it the root is a whole-number
-** one, a bit of the result a turn, beginning at the highest bit there is. OWN_NUMBERS is for feed: see there.
+** It is compiled six times, each time under the name PLAIN: at -O2 and at -O3, and with one of three roots. By itself the root is a
+** whole-number one, a bit of the result a turn, beginning at the highest bit there is. DOUBLE_ROOT takes the processor's square root of a
+** double, which is exact here: every number that a root is taken of is below 2^52. QUARTER_ROOT takes the library's, which calls itself.
+** OWN_NUMBERS is for feed: see there.
 */
 #include <string.h>
 
@@ -203,6 +204,12 @@ static zones loops(const uint8_t *r, const phasor *v, const phasor *i) {
 /* The floor of the root. */
 #ifdef DOUBLE_ROOT
 static uint64_t root_down(uint64_t x) { return (uint64_t)(int64_t)__builtin_sqrt((double)(int64_t)x); }
+#elif defined QUARTER_ROOT
+static uint64_t root_down(uint64_t x) {
+  if (x == 0) return 0;
+  uint64_t doubled = 2 * root_down(x / 4);
+  return (doubled + 1) * (doubled + 1) <= x ? doubled + 1 : doubled;
+}
 #else
 static uint64_t root_down(uint64_t x) {
   if (x == 0) return 0;

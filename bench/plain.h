@@ -1,4 +1,4 @@
-/* The calls in plain C, to be counted beside the library's: one source, compiled in five ways. */
+/* The calls in plain C, to be counted beside the library's: one source, compiled in six ways. */
 #ifndef PLAIN_H
 #define PLAIN_H
 #include <stddef.h>
@@ -13,8 +13,9 @@ typedef struct {
   uint64_t (*feed)(uint8_t *state, size_t state_len, const uint8_t *frame, size_t frame_len, uint8_t *out, size_t out_len);
 } all_calls;
 
-/* At -O2 and at -O3, with a root in whole numbers and with the processor's root of a double. The last keeps the window that is fed in the
-** processor's own numbers, where the others and the library have bytes, upper byte first. */
-extern const all_calls plain_O2, plain_O3, plain_double_O2, plain_double_O3, plain_own_O3;
+/* At -O2 and at -O3, with a root by bits and with the processor's root of a double; and at -O3 with the library's root, which calls
+** itself. The last keeps the window that is fed in the processor's own numbers, where the others and the library have bytes, upper byte
+** first. */
+extern const all_calls plain_O2, plain_O3, plain_double_O2, plain_double_O3, plain_quarter_O3, plain_own_O3;
 
 #endif

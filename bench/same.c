@@ -206,7 +206,7 @@ void same_zones(void) {
 void print_compared(void) {
   long calls = 0;
   for (int number = 0; number <= GORSEPETAL_NO_RELAY; number++) calls += answered[number];
-  printf("%ld calls made by the archive and by all five versions of plain C: the same answers, the same bytes written.\n", calls);
+  printf("%ld calls made by the archive and by all six versions of plain C: the same answers, the same bytes written.\n", calls);
   printf("Done: %ld. Refused", answered[GORSEPETAL_DONE]);
   const char *before = ": ";
   for (int number = GORSEPETAL_DONE + 1; number <= GORSEPETAL_NO_RELAY; number++)

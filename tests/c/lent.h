@@ -39,7 +39,7 @@ struct test_case {
   const char *name;
   void (*run)(void);
 };
-extern const struct test_case entry_cases[], decide_cases[], feed_cases[], second_zone_cases[];
+extern const struct test_case entry_cases[], decide_cases[], feed_cases[], second_zone_cases[], root_cases[];
 
 /* Runs the cases of a table; gives back how many. */
 int run_cases(const struct test_case *cases);

@@ -16,8 +16,8 @@
   has every statement of that crate; the counts of assumed C functions are those that the checks of the crates gave, which must all have
   been proved here.
 - docs/WRONG-RELAYS.md: it names each must-fail edit below its crate, in the order of the layers, and no other.
-- docs/HAND-CHECKS.md: its sums come out; its example of feed, and its tables of several faults at once, say what the independent program
-  does.
+- docs/HAND-CHECKS.md: its sums come out; in its root each call follows from the next; its example of feed, and its tables of several
+  faults at once, say what the independent program does.
 - docs/RULES.md: its rules are numbered, and each says by which request it stands and names definitions, which have its figures, or for a
   rule of ours a section of the manual; its tables and drawings say what the source says; its examples follow from their formulas.
 - crates.txt names what each crate uses, and nothing more.
@@ -63,6 +63,7 @@ def main():
         'tests at the panel': worked.check_tests(),
         'rows on what an answer leaves': left.check_left(),
         'sums in the hand checks': hand_checks.check_sums(),
+        'calls of a root in the hand checks': hand_checks.check_root(),
         'steps of feed in the hand checks': hand_checks.check_fed(),
         'answers to several faults at once': hand_checks.check_orders(),
         'rules': rules.check_rules(),

@@ -1,5 +1,5 @@
-"""Holds docs/HAND-CHECKS.md: its sums come out; and where it works feed out frame by frame, and where several things are wrong at once, it
-says what the independent program does."""
+"""Holds docs/HAND-CHECKS.md: its sums come out; where it works a root out call by call, each call follows from the next; and where it works
+feed out frame by frame, and where several things are wrong at once, it says what the independent program does."""
 import re
 from pathlib import Path
 
@@ -44,6 +44,31 @@ def check_sums():
         if value != int(result):
             wrong(f'{side} is {value}, not {result}')
     return len(found)
+
+
+# A root, call by call
+
+
+def call_by_call(n):
+    """The rows for n, the last call's last: what each call is asked, gets back, doubles, tries and answers."""
+    if n == 0:
+        return [['0', '', '', '', '', '0']]
+    below = call_by_call(n // 4)
+    back = int(below[0][-1])
+    more = 2 * back + 1
+    fits = more * more <= n
+    return [[str(n), str(back), str(2 * back), f'{more}² = {more * more}', 'yes' if fits else 'no', str(2 * back + fits)], *below]
+
+
+def check_root():
+    """The table of the root's calls."""
+    found = [[[*row.values()] for row in rows] for rows in tables(PAGE, 'call')]
+    for rows in found:
+        if rows != [[str(k), *row] for k, row in enumerate(call_by_call(int(rows[0][1])), 1)]:
+            wrong(f'the calls for the root of {rows[0][1]} are others')
+    if not found:
+        wrong('no root is worked out call by call')
+    return sum(map(len, found))
 
 
 # Frame by frame

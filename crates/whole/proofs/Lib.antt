@@ -9,5 +9,7 @@ pub mod TwosComplement
 pub mod Rounding
 pub mod Remainder
 pub mod Roots
+pub mod Calls
+pub mod WorkedRoot
 pub mod Sums
 pub mod Rows

@@ -37,6 +37,21 @@ pub floorRoot-is : (n : ℕ) → IsFloorRoot n (floorRoot n)
 unfolding floorRoot
 floorRoot-is n = rootWithin-is n n (omega arith)
 
+-- of what is equal to it: its meaning, and how large it is; and what has its meaning is equal to it
+module _ {n r : ℕ} where
+  pub floorRoot-means : r ≡ floorRoot n → IsFloorRoot n r
+  floorRoot-means e = rw e (floorRoot-is n)
+
+  pub floorRoot-below : r ≡ floorRoot n → (b : ℕ) → n < b * b → r < b
+  floorRoot-below e b h = sq-lt r b (omega (arith, floorRoot-means e))
+
+  pub floorRoot-only : IsFloorRoot n r → r ≡ floorRoot n
+  floorRoot-only h = floorRoot-unique h (floorRoot-is n)
+
+-- document 02, CR 3: the root, "from the root of a quarter of the number, doubled and corrected by one at most"
+pub floorRoot-from-quarter : (n : ℕ) → floorRoot n ≡ fromQuarter n (floorRoot (n / 4))
+floorRoot-from-quarter n = floorRoot-unique (floorRoot-is n) (fromQuarter-is n (floorRoot (n / 4)) (floorRoot-is (n / 4)))
+
 -- ---- rounded up
 
 pub rootUp-unique : {n u v : ℕ} → IsRootUp n u → IsRootUp n v → u ≡ v

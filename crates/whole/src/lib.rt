@@ -2,7 +2,7 @@
 // yes and no as bits.
 ghost use mathlib.Core.Path.{_≡_};
 ghost use mathlib.Core.Bool.{cond};
-ghost use Prim.Native.Nat.{_+_, _*_, _<_, _≤_, _^_};
+ghost use Prim.Native.Nat.{_+_, _*_, _≤_, _^_};
 ghost use lib.IntN.{pos, natAbs, _-ℤ_, _*ℤ_};
 ghost use lib.Signed.{_<ℤ_, shrZ};
 ghost use Rattle.whole.specs.Sizes.{Within};
@@ -29,43 +29,23 @@ pub fn round_by(x: i64, d: i64) -> i64
     (s - floor_rem(s, d)) / d
 }
 
-// The root rounded down of a number below the width's square. It is at least r and below r + w throughout, and each turn halves w.
-// How often that is does not depend on x, so a call with a literal width is unrolled.
-fn root_below(x: u64, width: u64) -> u64
-    requires { ⌜ (x < width * width) × (width ≤ 2 ^ 32) ⌝ }
-    ensures { λ r. ⌜ r ≡ floorRoot x ⌝ }
-{
-    let mut r: u64 = 0;
-    let mut w = width;
-    while 1 < w {
-        let h = w / 2;
-        w = w - h;
-        let t = r + h;
-        if t * t <= x {
-            r = t;
-        }
-    }
-    r
-}
-
-// The root rounded down: a magnitude, from its square. Every bit of it is a step, so a smaller number takes fewer. The relay measures in
-// sixty-fourths of a count: 8 steps do below 4 counts, 13 below 128, 17 below 2048, 22 for any end's current, and 25 for any sum of six;
-// 32 for all other numbers, of which the relay takes no root.
+// The root rounded down: a magnitude, from its square.
+//
+// The root of zero is zero. For any other number, take the root of a quarter of it, by this same function, and double that. This is the
+// root, or one too small: if the square of one more is still at most the number, add one. For 8: a quarter is 2, whose root is 1. Doubled
+// it is 2. 3 times 3 is 9, above 8, so the root is 2. For 32: a quarter is 8, whose root is 2. Doubled it is 4. 5 times 5 is 25, not above
+// 32, so the root is 5.
+//
+// Each call asks the next one for the root of a quarter of its own number, cut to a whole one. After 32 quarters any number is zero, so
+// there are at most 33 calls. Adding one is enough, because twice the root of the quarter is at most the root, and two more is above it.
 pub fn floor_root(x: u64) -> u64
     ensures { λ r. ⌜ r ≡ floorRoot x ⌝ }
 {
-    if x < 65536 {
-        root_below(x, 256)
-    } else if x < 67108864 {
-        root_below(x, 8192)
-    } else if x < 17179869184 {
-        root_below(x, 131072)
-    } else if x < 17592186044416 {
-        root_below(x, 4194304)
-    } else if x < 1125899906842624 {
-        root_below(x, 33554432)
+    if x == 0 {
+        0
     } else {
-        root_below(x, 4294967296)
+        let r = 2 * floor_root(x / 4);
+        if (r + 1) * (r + 1) <= x { r + 1 } else { r }
     }
 }
 
