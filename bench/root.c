@@ -71,8 +71,13 @@ static void print_root(const char *window, long was, uintptr_t root) {
   version = &versions[ARCHIVE];
   call = DECIDE;
   steps s = count(make_it, root);
-  printf("%-12s%15llu%9d%8ld%7ld%7ld%7ld\n", window, (unsigned long long)s.argument, root_bits(s.argument), was, all(s), s.calls,
+  int bits = root_bits(s.argument);
+  printf("%-12s%15llu%9d%8ld%7ld%7ld%7ld\n", window, (unsigned long long)s.argument, bits, was, all(s), s.calls,
          (long)(s.stack - s.deepest) + (long)sizeof(void *));
+  if (s.calls != bits + 1) {
+    printf("a root of %d bits should have a call for each, and one for zero\n", bits);
+    exit(1);
+  }
 }
 
 static void roots_alone(uintptr_t root) {

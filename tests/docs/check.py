@@ -20,7 +20,7 @@
   faults at once, say what the independent program does.
 - docs/RULES.md: its rules are numbered, and each says by which request it stands and names definitions, which have its figures, or for a
   rule of ours a section of the manual; its tables and drawings say what the source says; its examples follow from their formulas.
-- crates.txt names what each crate uses, and nothing more.
+- crates.txt names what each crate uses, and nothing more. One function calls itself, and the header says so.
 - In tests/independent/ imports go one way, from what drives to the cases to the model, and its README.md has a line for each file.
 - No crate, and not all of them together, takes more lines of proof for a line of code than docs/ARCHITECTURE.md allows.
 """
@@ -83,6 +83,7 @@ def main():
         'quotations': documents.check_quoted(),
         'commands': documents.check_commands(),
         'layers': layers.check_layers(),
+        'functions that call themselves': layers.check_rings(),
         'files of the independent program': boundary.check_boundary(),
         "crates' axioms": axioms.check_axioms(),
         "crates' lines": lines.check_lines(),

@@ -1,10 +1,11 @@
-"""Which crate stands on which: crates.txt names what each uses, and nothing more."""
+"""Which crate stands on which: crates.txt names what each uses, and nothing more; and which function calls itself."""
 import re
 from pathlib import Path
 
 from tree import ROOT, blank, faults, read
 
 CRATES = Path('crates.txt')
+HEADER = Path('include/gorsepetal.h')
 
 
 def direct():
@@ -47,3 +48,13 @@ def check_layers():
         faults.extend(f'{CRATES}: {name} names {other}, which it does not use' for other in needed if other not in uses)
         faults.extend(f'{CRATES}: {name} uses {other}, which it does not name' for other in sorted(uses - set(needed)))
     return len(direct())
+
+
+def check_rings():
+    """Functions that call themselves, or each other in a ring, have one proof in a folder with a plus before each name. The header has one."""
+    rings = [path.name for path in sorted(ROOT.glob('crates/*/proofs/+*'))]
+    if rings != ['+floor_root']:
+        faults.append(f'{HEADER}: one function calls itself, the root, but the proofs have {rings}')
+    if 'One function of the library calls itself: the root. No other does' not in ' '.join(read(HEADER).replace('**', '').split()):
+        faults.append(f'{HEADER}: it does not say which function calls itself')
+    return len(rings)
