@@ -34,6 +34,7 @@ static void same_nth(long n, second_zone zone) {
 static void compare(long windows) {
   same_refusals();
   same_zones();
+  same_balanced();
   for_each_window(same_window);
   for (long n = 0; n < windows; n++)
     for (second_zone zone = OFF; zone < ZONES; zone++) same_nth(n, zone);

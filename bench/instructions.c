@@ -193,6 +193,6 @@ void extent_tables(long windows) {
   }
   printf("\nThe count is bounded: a loop turns once for each end, phase, frame, sample or byte of a record. Only the root calls\n");
   printf("itself, once for each bit of it: at most 26 calls with the first. The value of a sample decides how many, and besides\n");
-  printf("some short branches: the pickups and the sign of m. Whether the second zone is on is decided by the record. A missing\n");
-  printf("sample adds a search over the samples, after which the call ends.\n");
+  printf("some short branches: the pickups, the sign of m and what trips. Whether the second zone is on is decided by the record.\n");
+  printf("A missing sample adds a search over the samples, after which the call ends.\n");
 }

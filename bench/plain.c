@@ -1,6 +1,6 @@
 /*
-** Document 01, feeding and the second zone, as one would write them in C: tables, 64-bit sums, one quantity after another. It is the
-** measure for the library's speed and nothing else: its answers are compared with the library's before anything is counted.
+** Document 01, feeding, the second zone and balanced faults, as one would write them in C: tables, 64-bit sums, one quantity after another.
+** It is the measure for the library's speed and nothing else: its answers are compared with the library's before anything is counted.
 **
 ** It is compiled six times, each time under the name PLAIN: at -O2 and at -O3, and with one of three roots. By itself the root is a
 ** whole-number one, a bit of the result a turn, beginning at the highest bit there is. DOUBLE_ROOT takes the processor's square root of a
@@ -153,13 +153,18 @@ static phasor sequence(const phasor *x, phasor f, phasor g) {
   return over_16384(plus(first, plus(times(f, x[1]), times(g, x[2]))));
 }
 
-static int direction(const uint8_t *r, const phasor *v, const phasor *i) {
+/* Whether 3I2 reaches its pickup, and the direction, which is none where it does not. */
+typedef struct {
+  int picked_up, way;
+} negative_sequence;
+
+static negative_sequence direction(const uint8_t *r, const phasor *v, const phasor *i) {
   phasor v2 = sequence(v, A2, A), i2 = sequence(i, A2, A), d = {unsigned_at(r, 16), unsigned_at(r, 18)};
   int64_t square = dot(i2, i2), pickup = unsigned_at(r, 24);
-  if (square < pickup * pickup) return NONE;
+  if (square < pickup * pickup) return (negative_sequence){0, NONE};
   int64_t torque = dot(v2, times(d, i2));
-  if (torque < signed_at(r, 20) * square) return FORWARD;
-  return torque > signed_at(r, 22) * square ? REVERSE : NONE;
+  if (torque < signed_at(r, 20) * square) return (negative_sequence){1, FORWARD};
+  return (negative_sequence){1, torque > signed_at(r, 22) * square ? REVERSE : NONE};
 }
 
 /* Mho loops, from the same */
@@ -256,6 +261,14 @@ static int differential(const uint8_t *r, phasor currents[PHASES][MOST_ENDS], ui
 
 /* Decision */
 
+enum { PHASE_LOOPS = 8 + 16 + 32 }; /* AB, BC and CA */
+
+/* Whether distance trips. By direction any loop of the first zone will do; a balanced fault has too little 3I2 for one, and there all three
+** phase loops have to assert. */
+static int distance(negative_sequence found, int first_zone) {
+  return found.picked_up ? found.way == FORWARD && first_zone != 0 : (first_zone & PHASE_LOOPS) == PHASE_LOOPS;
+}
+
 /* The decision on a window of which no sample is missing. */
 static void decision(const uint8_t *r, const int16_t *window, uint8_t *out) {
   size_t ends = ends_of(r), channels = channels_of(r);
@@ -265,12 +278,13 @@ static void decision(const uint8_t *r, const int16_t *window, uint8_t *out) {
     for (size_t e = 0; e < ends; e++) currents[p][e] = measure(window, channels, PHASES + PHASES * e + p);
     local[p] = currents[p][0];
   }
-  int phases = differential(r, currents, out + 8, out + 20), way = direction(r, v, local);
+  int phases = differential(r, currents, out + 8, out + 20);
+  negative_sequence found = direction(r, v, local);
   zones asserting = loops(r, v, local);
-  out[0] = phases != 0 || (way == FORWARD && asserting.first != 0);
+  out[0] = phases != 0 || distance(found, asserting.first);
   out[1] = (uint8_t)phases;
   out[2] = (uint8_t)asserting.first;
-  out[3] = (uint8_t)way;
+  out[3] = (uint8_t)found.way;
   out[4] = (uint8_t)asserting.second;
   memset(out + 5, 0, 3);
 }

@@ -203,6 +203,30 @@ void same_zones(void) {
     }
 }
 
+/* With a pickup of 3I2 about 50 and at the edges of its range, and reaches about 500. */
+static void same_pickups(lent *window) {
+  static const int pickups[] = {1, 49, 50, 51, 52, 42000};
+  static const int reaches[][2] = {{850, 0}, {499, 500}, {500, 500}, {1, LARGEST_REACH}, {LARGEST_REACH, LARGEST_REACH}};
+  for (size_t pickup = 0; pickup < sizeof pickups / sizeof *pickups; pickup++)
+    for (size_t pair = 0; pair < sizeof reaches / sizeof *reaches; pair++) {
+      put(window->state, GORSEPETAL_AT_NEGATIVE_SEQUENCE_PICKUP, pickups[pickup]);
+      put(window->state, GORSEPETAL_AT_REACH, reaches[pair][0]);
+      put(window->state, GORSEPETAL_AT_SECOND_REACH, reaches[pair][1]);
+      same_decided(window);
+    }
+}
+
+void same_balanced(void) {
+  static const int i2[] = {0, 49, 50, 51};
+  for (int ends = FEWEST_ENDS; ends <= MOST_ENDS; ends++)
+    for (balanced_fault fault = HALFWAY; fault < BALANCED_FAULTS; fault++)
+      for (size_t k = 0; k < sizeof i2 / sizeof *i2; k++) {
+        lent slices;
+        lend_balanced(&slices, ends, fault, i2[k]);
+        same_pickups(&slices);
+      }
+}
+
 void print_compared(void) {
   long calls = 0;
   for (int number = 0; number <= GORSEPETAL_NO_RELAY; number++) calls += answered[number];

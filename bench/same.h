@@ -16,11 +16,13 @@ void same_refusals(void);
 /* The same about the edges of both zones. */
 void same_zones(void);
 
+/* The same for balanced faults, with a 3I2 about its pickup. */
+void same_balanced(void);
+
 /* The same for so many runs of calls: each goes on with the state that the one before left. */
 void same_runs(long runs);
 
-/* Prints how many calls were compared, and how many of them were refused with each number; and what they showed of the second zone, as
-** seen.h has it. */
+/* Prints how many calls were compared, and how many of them were refused with each number; and what they showed, as seen.h has it. */
 void print_compared(void);
 
 #endif

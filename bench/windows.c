@@ -123,15 +123,51 @@ void lend_fault(lent *to, int ends) {
   for (int end = 1; end <= ends; end++) wave(to, current(end, 0), 0, -20000);
 }
 
-/* One sample makes a whole phasor, as in document 01's hand checks: with phase 0, Va is 500, and Ia of -1000 j and Ib of -500 j flow in at
-** end 1 and out at end 2. */
+/* Exactly this phasor, its parts up to 4095: one sample makes each of them, as in document 01's hand checks. */
+static void put_phasor(lent *to, int channel, int re, int im) {
+  put_sample(to, 0, channel, 8 * re);
+  put_sample(to, 4, channel, -8 * im);
+}
+
+/* A current of a phase that flows in at end 1 and out at end 2. */
+static void through(lent *to, int phase, int re, int im) {
+  put_phasor(to, current(1, phase), re, im);
+  put_phasor(to, current(2, phase), -re, -im);
+}
+
+/* With phase 0, Va is 500, and Ia of -1000 j and Ib of -500 j flow through. */
 void lend_edge(lent *to, int ends, int phase) {
-  int next = (phase + 1) % PHASES;
   lend_dead(to, ends);
-  put_sample(to, 0, phase, 4000);
-  for (int end = 1; end <= 2; end++) {
-    put_sample(to, 4, current(end, phase), end == 1 ? 8000 : -8000);
-    put_sample(to, 4, current(end, next), end == 1 ? 4000 : -4000);
+  put_phasor(to, phase, 500, 0);
+  through(to, phase, 0, -1000);
+  through(to, (phase + 1) % PHASES, 0, -500);
+}
+
+/* The currents of a fault ahead, a quarter of a cycle behind voltages of 500 each. */
+static const int AHEAD[PHASES][2] = {{0, -1000}, {-866, 500}, {866, 500}};
+
+/* The voltages; the sign of those currents; and a zero sequence beside them, times j. */
+static const struct {
+  int v[PHASES][2], sign, zero_sequence;
+} BALANCED[BALANCED_FAULTS] = {
+    [HALFWAY] = {{{500, 0}, {-250, -433}, {-250, 433}}, 1, 0},
+    [LOWER_VA] = {{{480, 0}, {-250, -433}, {-250, 433}}, 1, 0},
+    [HIGHER_VA] = {{{520, 0}, {-250, -433}, {-250, 433}}, 1, 0},
+    [PHASE_LOOPS_ALONE] = {{{-1200, 0}, {-1950, -433}, {-1950, 433}}, 1, 360},
+    [ALL_BUT_AB] = {{{818, 183}, {-568, -617}, {-150, 260}}, 1, 0},
+    [ALL_BUT_BC] = {{{300, 0}, {-250, -800}, {-250, 800}}, 1, 0},
+    [ALL_BUT_CA] = {{{818, -183}, {-150, -260}, {-568, 617}}, 1, 0},
+    [BEHIND] = {{{500, 0}, {-250, -433}, {-250, 433}}, -1, 0},
+    [ONE_COUNT_LEFT] = {{{1, 0}, {0, -1}, {-1, 1}}, 1, 0},
+};
+
+void lend_balanced(lent *to, int ends, balanced_fault fault, int i2) {
+  lend_dead(to, ends);
+  for (int phase = 0; phase < PHASES; phase++) {
+    const int *v = BALANCED[fault].v[phase], sign = BALANCED[fault].sign;
+    int re = sign * AHEAD[phase][0], im = sign * AHEAD[phase][1] + BALANCED[fault].zero_sequence;
+    put_phasor(to, phase, v[0], v[1]);
+    through(to, phase, re, phase == 0 ? im - i2 : im);
   }
 }
 

@@ -19,6 +19,22 @@ void lend_dead(lent *to, int ends);
 ** AB from 1000 on; with 1 and 2 by turn. Here the direction is reverse, and it is forward by limits above 500. No phase operates. */
 void lend_edge(lent *to, int ends, int phase);
 
+/* Decide, by that record: faults of all three phases, their currents flowing in at end 1 and out at end 2, so that no phase operates. 3I2
+** is exactly so many counts, all of them in Ia. Which loops assert is said for 0 counts. */
+typedef enum {
+  HALFWAY,           /* all six loops from a reach of 500 on; T is 0, so there is never a direction */
+  LOWER_VA,          /* much the same, but forward where 3I2 reaches its pickup */
+  HIGHER_VA,         /* and here reverse */
+  PHASE_LOOPS_ALONE, /* from 500 on: a zero sequence hides the fault from the ground loops */
+  ALL_BUT_AB,        /* at the record's reach all loops but this one; from 924 on it too */
+  ALL_BUT_BC,
+  ALL_BUT_CA,
+  BEHIND,         /* behind the relay: no loop, at any reach */
+  ONE_COUNT_LEFT, /* of the voltages: all six loops, though this may be noise and the current a load */
+  BALANCED_FAULTS
+} balanced_fault;
+void lend_balanced(lent *to, int ends, balanced_fault fault, int i2);
+
 /* The second zone: off, as in every record from before it, or on. */
 typedef enum { OFF, ON, ZONES } second_zone;
 extern const char *const zone_names[ZONES];

@@ -280,6 +280,7 @@ enum { AG = GORSEPETAL_LOOP_AG, FORWARD = GORSEPETAL_DIRECTION_FORWARD, REVERSE 
 #define AT_95 .title = "Phase a to ground on the line, 95 percent from end 1", GROUND(0.95)
 #define BEYOND .title = "Phase a to ground behind end 2's busbar, 800 m out on another line", GROUND(1.02)
 #define BALANCED_AT(part) .kind = BALANCED, .place = part
+#define BALANCED_BEYOND .title = "Balanced three-phase fault behind end 2's busbar, 800 m out on another line", BALANCED_AT(1.02)
 
 static const Case CASES[] = {
   {.title = "Load", .kind = LOAD, .place = 0.3,
@@ -299,9 +300,11 @@ static const Case CASES[] = {
    .why = "phase a's current leaves the line at end 1, so AG's m is negative in both zones, and Z2 is positive"},
   {.title = "Balanced three-phase fault on the line, 30 percent from end 1", BALANCED_AT(0.3),
    .trip = 1, .phases = ABC, .loops = ALL_LOOPS, .second = ALL_LOOPS,
-   .why = "no negative sequence, so direction none: all loops assert, but distance cannot trip; the differential does"},
-  {.title = "Balanced three-phase fault behind end 2's busbar, 800 m out on another line", BALANCED_AT(1.02), .second = ALL_LOOPS,
-   .why = "no direction here either, and the second zone asks for none: the lamp is lit"},
+   .why = "no negative sequence, so direction none; but AB, BC and CA all assert in zone 1, so distance trips, and the differential too"},
+  {BALANCED_BEYOND, .second = ALL_LOOPS,
+   .why = "no direction here either; beyond zone 1, so none of the three asserts there and nothing trips. The lamp is lit"},
+  {.title = "Balanced three-phase fault behind the relay, 800 m out on another line of end 1", BALANCED_AT(-0.02),
+   .why = "without a direction the loops alone tell: the current leaves the line at end 1, so every m is negative, and none asserts"},
   {.title = "Load, with the current transformer of end 2 connected the wrong way round", .kind = LOAD, .place = 0.3, .reversed = 2,
    .trip = 1, .phases = ABC,
    .why = "the line is sound; the differential is twice the current of end 2: read it under load before the trip is wired"},
@@ -320,6 +323,8 @@ static const Case WRONG_UNIT[] = {
    .why = "both reaches are twice what was meant: AG asserts for a fault that zone 1 should leave alone"},
   {BEYOND, .trip = 1, .loops = AG, .direction = FORWARD, .second = OF_A,
    .why = "and here the relay trips the line for a fault that is not on it"},
+  {BALANCED_BEYOND, .trip = 1, .loops = ALL_LOOPS, .second = ALL_LOOPS,
+   .why = "so it does here: no phase operates and there is no direction, but AB, BC and CA all assert in a zone 1 that is too long"},
 };
 
 /* Sixteen frames of Va, Vb, Vc and of each end's Ia, Ib, Ic. A steady wave with the peak phasor re + j im is re cos - im sin, which is the

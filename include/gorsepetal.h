@@ -100,6 +100,10 @@
 ** another matter: by version 2 a record with a second reach counts as absent, and nothing is in
 ** force. So before going back, propose and confirm the record with a second reach of 0.
 **
+** Version 3 had the state and the records of this version. Such a state serves as it is, and the
+** other way round. But by version 4 the relay trips on balanced faults too: see BALANCED FAULTS,
+** for load above all.
+**
 ** WHAT COMES BACK
 **
 ** Each call gives back one number, 256 times the place plus the number of the table.
@@ -223,9 +227,10 @@
 **
 ** With a test set at end 1, the settings in force, and the other ends sending zeros: three voltages
 ** of magnitude E at their usual angles, but Va smaller; current Ia on phase a alone, small enough
-** for that. All in secondary volts, amperes and ohms, with Z as it was entered (Z1, unless UNITS
-** had you enter a part of it), k of the line, and r and r2 as fractions. The differential trips
-** throughout: look at bytes 2, 3 and 4 of the decision, not at byte 0.
+** for that. In the test of a balanced fault all three phases are alike. All in secondary volts,
+** amperes and ohms, with Z as it was entered (Z1, unless UNITS had you enter a part of it), k of
+** the line, and r and r2 as fractions. The differential trips throughout: look at bytes 2, 3 and 4
+** of the decision, not at byte 0.
 **
 **   - Reach: Ia behind Va by the angle of Z (1 + k), and Va = f x r x |Z (1 + k)| x Ia. In byte 2
 **     GORSEPETAL_LOOP_AG has to be set at f = 0.95 and not at f = 1.05.
@@ -236,6 +241,12 @@
 **     to be forward at f = 1.05 and none at f = 0.95.
 **   - Reverse limit: the current turned round, and Va = E - f x zr x Ia. The direction has to be
 **     reverse at f = 1.05 and none at f = 0.95.
+**   - Balanced fault: three voltages V at their usual angles, three currents I, each behind its
+**     voltage by the angle of Z, and V = f x r x |Z| x I. Byte 2 has to be 63 at f = 0.95 and 0 at
+**     f = 1.05, and byte 3 has to be 0 at both. With the currents turned round byte 2 has to be 0
+**     at f = 0.95 too. To see the trip, propose and confirm the record with a K of 100, at which no
+**     phase operates: byte 0 has to be 1 at f = 0.95 and 0 at f = 1.05. Then enter the line's own K
+**     again, twice, and read it back.
 **   - Currents, under a load of known primary size. Bytes 8 to 19, divided by 64, have to be its
 **     peak counts, added up over the ends. Bytes 20 to 31, divided by 64, have to be no more than
 **     the charging current in peak counts and what the transformers' errors add. An end that is
@@ -264,12 +275,14 @@
 **        half a count at most, so a differential of N ends is known to within 0.71 N counts.
 **   Z, r the replica Z is Z1, the positive sequence impedance of the line from the relay to the far
 **        end, and r the part of it that zone 1 covers, usually 800 to 850. There is no delay: a
-**        loop that asserts trips if the direction is forward. So r x Z has to stay below Z1. With
-**        more than two ends take the far end with the SMALLEST |Z1|: zone 1 then covers so many
-**        ohms on the way to every end, and the differential covers all of the line. Beyond the tee,
-**        current that another end feeds in makes a loop see a fault farther away than it is;
-**        current that an end lets out makes it see the fault nearer, and r has to be smaller there.
-**        Distance cannot be switched off; r = 1 leaves a thousandth of it.
+**        loop that asserts trips if the direction is forward, and AB, BC and CA together trip where
+**        3I2 is below its pickup. So r x Z has to stay below Z1, and it must not reach the largest
+**        load: BALANCED FAULTS has the formula. With more than two ends take the far end with the
+**        SMALLEST |Z1|: zone 1 then covers so many ohms on the way to every end, and the
+**        differential covers all of the line. Beyond the tee, current that another end feeds in
+**        makes a loop see a fault farther away than it is; current that an end lets out makes it
+**        see the fault nearer, and r has to be smaller there. Distance cannot be switched off; r =
+**        1 leaves a thousandth of it.
 **   k, D of the line from the relay to that same end. A k beyond its range, as of some cables,
 **        cannot be set; the ground loops then reach otherwise.
 **   zf   the relay measures V2 / I2, its part along the line angle. For a fault ahead that is minus
@@ -283,9 +296,12 @@
 **        angle of Zb or Za is not the line angle, its part along it counts: its magnitude times the
 **        cosine of the difference.
 **   pickup of 3I2
-**        above the unbalance of the largest load; below 3I2 of the smallest fault that has to be
-**        told apart. 3I2 is three times the negative sequence current: a fault from one phase to
-**        ground with current I in that phase and none in the others has a 3I2 of I.
+**        above the unbalance of the largest load, and above what the errors of the current
+**        transformers make of a balanced fault: at the pickup it would need a direction, which it
+**        does not have. Below 3I2 of the smallest fault that has to be told apart: under the pickup
+**        no direction is asked, and AB, BC and CA together trip. 3I2 is three times the negative
+**        sequence current: a fault from one phase to ground with current I in that phase and none
+**        in the others has a 3I2 of I.
 **   r2   0 if the panel has no lamp for it: the second zone is then off. Otherwise it has to
 **        OVERREACH: to see every solid fault on the line, and so some beyond its ends. It is a lamp
 **        only, and trips nothing: THE SECOND ZONE says what it shows. On a line of two ends r2 is
@@ -357,6 +373,10 @@
 ** The lamp under load: along the line angle the second zone ends at 1.5 x 4.079 = 6.12 ohm. At a
 ** load angle of 30 degrees it ends at 6.12 x cos(78.69 - 30) = 4.04 ohm. So at 50 V the lamp stays
 ** dark up to 12.3 A.
+**
+** The trip under load: along the line angle the first zone ends at 0.8 x 4.079 = 3.26 ohm. At a
+** load angle of 30 degrees it ends at 3.26 x cos(78.69 - 30) = 2.15 ohm. So at 50 V load does not
+** trip up to 23.2 A.
 **
 ** WINDOW
 **
@@ -451,6 +471,49 @@
 **   24 to 27   the same of phase b
 **   28 to 31   the same of phase c
 **
+** BALANCED FAULTS
+**
+** A fault of all three phases alike has no negative sequence, and so no direction: byte 3 reads 0.
+** Distance trips on it by a rule of its own, document 02's CR 4: 3I2 is below its pickup, and AB,
+** BC and CA all assert in byte 2. The ground loops and the second zone have no part in it. Where
+** 3I2 reaches its pickup this rule is out, whatever byte 3 reads: with T between the limits, byte 3
+** reads 0 and distance does not trip.
+**
+** Why a relay has tripped can be read from the decision. More than one reason may hold at a time:
+**
+**   byte 1 is not 0                     the differential of these phases operates
+**   byte 3 is 1, and byte 2 is not 0    a fault ahead, in the first zone
+**   byte 3 is 0, and byte 1 is 0 too    a balanced fault, in the first zone; byte 2 is 56 to 63
+**
+** No direction is asked, no least current and no least voltage. What follows from that has to be
+** seen to before version 4 guards a line:
+**
+**   - LOAD is balanced. All six loops see it at V / I, V from phase to ground, and it trips if this
+**     is not above r x |Z| x cos(line angle - load angle). Here r is a fraction, and the load angle
+**     is that by which the current is behind the voltage. So V / I has to be larger than this at
+**     the largest load and the lowest voltage; where r cannot do both, the load decides. Up to
+**     version 3 such a load tripped nothing. A swing of power that comes as near trips too: nothing
+**     here tells it from a fault.
+**   - BLOWN FUSES. With one voltage lost, one of the three loops still sees load at V / I, and it
+**     trips as said before. With two lost, none of them sees it farther than at half of V / I: it
+**     trips at half the current. With all three lost and nothing left, no loop asserts; but if a
+**     count of noise is left, any load may trip. Firmware that can tell that a voltage is lost has
+**     to hold back a trip in which byte 1 is 0.
+**   - A LINE THAT IS OFF. Noise of a few counts in all channels may trip now and then. Where a trip
+**     must not come then, the firmware has to ask for a current before it passes on one in which
+**     byte 1 is 0.
+**   - NEXT TO THE RELAY. A balanced fault that leaves no voltage at all asserts no loop, since
+**     there is no polarising memory: distance does not trip on it. The differential can.
+**   - BEHIND THE RELAY. The sign of m alone tells behind from ahead. A fault behind without
+**     resistance has a negative m, and does not trip. One close behind with a little resistance, as
+**     of an arc, may assert all six loops while load flows in from the far ends: then distance
+**     trips on it. On the line worked out above, with j 0.9 ohm behind the relay and j 1.5 ohm
+**     beyond the far end, 0.1 ohm at the busbar behind trips if the far source is ahead by 20
+**     degrees, and not if it is ahead by 10.
+**   - NOT QUITE BALANCED. Below the pickup of 3I2 a fault counts as balanced, and its direction is
+**     not asked. At the pickup, direction alone decides. WHAT EACH FIELD SHOULD BE says how to set
+**     it.
+**
 ** THE SECOND ZONE
 **
 ** Byte 4 has the six loops of byte 2 at the second reach, r2. It is for a lamp on the panel, which
@@ -478,9 +541,8 @@
 **   - A ground loop of another phase may, since E makes its m positive. On a line of two ends, with
 **     Z = Z1, its own k and little load, it sees the fault at about 3 Z or farther, and no r2
 **     reaches that. With more ends, strong sources beyond a near tee can bring it within r2.
-**   - A balanced fault close behind, with some resistance, may assert all six in both zones if
-**     heavy load was flowing in from the far ends. Its direction is none, so distance does not
-**     trip.
+**   - A balanced fault close behind, with a little resistance, may assert all six in both zones
+**     while load flows in from the far ends. Then distance trips on it too: BALANCED FAULTS.
 **
 ** A lamp that has to stay dark in the first two cases is lit only if byte 3 is not
 ** GORSEPETAL_DIRECTION_REVERSE, which takes a 3I2 at its pickup. In the third nothing here can
@@ -530,8 +592,8 @@
 **   U = the sum over the ends of the smallest whole number whose square is at least 4096 |I|^2
 **   the phase operates exactly when s >= pickup^2 and 40960000 s > (K U)^2
 **
-** Trip: 1 exactly when a phase operates, or the direction is forward and a loop asserts. The second
-** zone has no part in it.
+** Trip: 1 exactly when a phase operates, or the direction is forward and a loop asserts, or |3I2|^2
+** < (pickup of 3I2)^2 and AB, BC and CA all assert. The second zone has no part in it.
 **
 ** A DECISION, WORKED OUT
 **
@@ -581,13 +643,14 @@
 ** LIMITS
 **
 ** What a decision cannot tell:
-**   - A balanced three-phase fault has no negative sequence, so its direction is none and distance
-**     cannot trip on it. The differential can, and the loops show it in the
-**     zones that reach it.
+**   - A balanced three-phase fault has no direction. Distance trips on it by its loops alone, and
+**     so on load, on a swing of power or on noise that looks like one, and on some faults behind:
+**     BALANCED FAULTS says on which.
 **   - Where the polarising quantity Vp is zero, as in a fault next to the relay with all three
-**     voltages gone, no loop asserts, in either zone. A voltage that is lost to a blown fuse looks
-**     like a fault to the loops; it trips only if the direction is forward too, which takes a 3I2
-**     at its pickup. The lamp asks for no direction, so load alone can light it then.
+**     voltages gone, no loop asserts, in either zone, and distance does not trip. A voltage that is
+**     lost to a blown fuse looks like a fault to the loops. It trips if the direction is forward,
+**     which takes a 3I2 at its pickup; or below that, if AB, BC and CA all assert. The lamp asks
+**     for neither, so load alone can light it then.
 **   - The second zone cannot tell a fault near the far end of the line from one beyond it, and it
 **     asserts for some faults behind the relay: THE SECOND ZONE says for which.
 **   - Clipped samples are not detected. A converter that clips at -32768 turns a heavy fault into
@@ -627,8 +690,8 @@ extern "C" {
 #endif
 
 /* The version of this file and of the archive: text, and 10000 major + 100 minor + patch. */
-#define GORSEPETAL_VERSION "3.0.1"
-#define GORSEPETAL_VERSION_NUMBER 30001
+#define GORSEPETAL_VERSION "4.0.0"
+#define GORSEPETAL_VERSION_NUMBER 40000
 
 /* Lengths in bytes: a relay's state, a settings record and a decision. */
 #define GORSEPETAL_STATE_LENGTH 738

@@ -21,6 +21,14 @@ void set_up(void) {
   for (int k = 0; k < STATE - COUNT; k++) some_window[k] = (uint8_t)(1 + k % 251);
 }
 
+uint8_t *with_reaches(int first, int second) {
+  static uint8_t record[RECORD];
+  memcpy(record, good, RECORD);
+  put(record, GORSEPETAL_AT_REACH, first);
+  put(record, GORSEPETAL_AT_SECOND_REACH, second);
+  return record;
+}
+
 /* Checks */
 
 int checks, faults;
@@ -114,6 +122,11 @@ void phasor(uint8_t *window, int channel, int re, int im) {
   put(window, 2 * (9 * 4 + channel), -8 * im);
 }
 
+void through(uint8_t *window, int phase, int re, int im) {
+  phasor(window, 3 + phase, re, im);
+  phasor(window, 6 + phase, -re, -im);
+}
+
 void fault_on(uint8_t *window, int x, int to_ground, int sign) {
   /* Of x and the two phases that follow it: the voltage and the current of end 1. */
   static const int ground[3][4] = {{1000, 0, 0, -1000}, {-1000, -1732, 0, 0}, {-1000, 1732, 0, 0}};
@@ -123,8 +136,7 @@ void fault_on(uint8_t *window, int x, int to_ground, int sign) {
     const int *of = to_ground ? ground[k] : phases[k];
     int at = (x + k) % 3;
     phasor(window, at, of[0], of[1]);
-    phasor(window, 3 + at, sign * of[2], sign * of[3]);
-    phasor(window, 6 + at, -sign * of[2], -sign * of[3]);
+    through(window, at, sign * of[2], sign * of[3]);
   }
 }
 
@@ -176,3 +188,20 @@ uint64_t feed(const uint8_t *bytes, size_t length, size_t room) {
   guards_kept("around out", &out);
   return answer;
 }
+
+static const uint8_t *decided(const uint8_t *record, const uint8_t *window) {
+  lend_state(record, zeros);
+  check("decide", decide(window, (size_t)GORSEPETAL_WINDOW_BYTES(record[1]), DECISION), GORSEPETAL_DONE);
+  return out.all + GUARD;
+}
+
+static const uint8_t *fed(const uint8_t *record, const uint8_t *window) {
+  size_t frame = (size_t)GORSEPETAL_FRAME_BYTES(record[1]), kept = 15 * frame;
+  lend_state(record, zeros);
+  put(state.all + GUARD, COUNT, 15);
+  memcpy(state.all + GUARD + NUMBERS + frame, window, kept);
+  check("feed", feed(window + kept, frame, DECISION), GORSEPETAL_DONE);
+  return out.all + GUARD;
+}
+
+const struct way ways[WAYS] = {{"decide", decided}, {"feed", fed}};

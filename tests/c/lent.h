@@ -28,6 +28,9 @@ extern struct lent state, out;
 extern const uint8_t good[RECORD], zeros[STATE];
 extern uint8_t other[RECORD], bad[RECORD];
 
+/* The good record with another reach and second reach. It stays until the next call. */
+uint8_t *with_reaches(int first, int second);
+
 /* The window that lend_state puts into the state: bytes of no meaning, which have to stay wherever a call is not to change them. */
 extern uint8_t some_window[STATE - COUNT];
 
@@ -39,7 +42,7 @@ struct test_case {
   const char *name;
   void (*run)(void);
 };
-extern const struct test_case entry_cases[], decide_cases[], feed_cases[], second_zone_cases[], root_cases[];
+extern const struct test_case entry_cases[], decide_cases[], feed_cases[], second_zone_cases[], root_cases[], balanced_cases[];
 
 /* Runs the cases of a table; gives back how many. */
 int run_cases(const struct test_case *cases);
@@ -59,6 +62,9 @@ void lend(struct lent *slice, const uint8_t *bytes, size_t length);
 /* A channel of a window of two ends with exactly this phasor, in counts: Va, Vb, Vc are 0 to 2, the currents 3 to 5 and 6 to 8. */
 void phasor(uint8_t *window, int channel, int re, int im);
 
+/* A current of phase 0, 1 or 2 that flows in at end 1 and out at end 2. */
+void through(uint8_t *window, int phase, int re, int im);
+
 /* A window with a fault of phase x to ground, or of the two others to each other, at half of the replica. The current of end 1 leaves at
 ** end 2; with sign -1, for a fault behind the relay, it flows the other way. */
 void fault_on(uint8_t *window, int x, int to_ground, int sign);
@@ -73,6 +79,14 @@ uint64_t confirm(const uint8_t *bytes, size_t length);
 uint64_t read_back(size_t room);
 uint64_t decide(const uint8_t *bytes, size_t length, size_t room);
 uint64_t feed(const uint8_t *bytes, size_t length, size_t room);
+
+/* The decision on a window by a record in force, which has to be made; it stays until the next call. By decide; and by feed of the last
+** frame, the fifteen before it being kept. */
+enum { BY_DECIDE, BY_FEED, WAYS };
+extern const struct way {
+  const char *name;
+  const uint8_t *(*decided)(const uint8_t *record, const uint8_t *window);
+} ways[WAYS];
 
 /* What the buffer has to be: as it was, or 32 bytes and the rest as it was. */
 void out_untouched(void);

@@ -5,15 +5,6 @@
 
 enum { OFF = 0, MOST = 2000, SECOND_ZONE = GORSEPETAL_DECISION_AT_SECOND_ZONE, ALL_LOOPS = 63 };
 
-/* The good record with another reach and second reach. It stays until the next call. */
-static uint8_t *with_reaches(int first, int second) {
-  static uint8_t record[RECORD];
-  memcpy(record, good, RECORD);
-  put(record, GORSEPETAL_AT_REACH, first);
-  put(record, GORSEPETAL_AT_SECOND_REACH, second);
-  return record;
-}
-
 /* ---- The field ---- */
 
 /* Proposes a record that has to be refused at this offset, or taken if it is -1. */
@@ -129,8 +120,7 @@ static const uint8_t *nth_window(int n) {
     memset(window, 0, WINDOW);
     for (int x = 0; x < 3; x++) {
       phasor(window, x, balanced[x][0], balanced[x][1]);
-      phasor(window, 3 + x, balanced[x][2], balanced[x][3]);
-      phasor(window, 6 + x, -balanced[x][2], -balanced[x][3]);
+      through(window, x, balanced[x][2], balanced[x][3]);
     }
   }
   if (n >= BY_CHANCE) {
@@ -143,35 +133,18 @@ static const uint8_t *nth_window(int n) {
   return window;
 }
 
-/* The decision on a window, by these two reaches. It stays until the next call. */
-static const uint8_t *decided(const uint8_t *window, int first, int second) {
-  lend_state(with_reaches(first, second), zeros);
-  check("decide", decide(window, WINDOW, DECISION), GORSEPETAL_DONE);
-  return out.all + GUARD;
+/* The decision on a window by these two reaches, in one of the ways. */
+static const uint8_t *decided(int way, const uint8_t *window, int first, int second) {
+  return ways[way].decided(with_reaches(first, second), window);
 }
-
-/* The same by feed: fifteen frames are kept, and the last one is fed. */
-static const uint8_t *fed(const uint8_t *window, int first, int second) {
-  lend_state(with_reaches(first, second), zeros);
-  put(state.all + GUARD, COUNT, 15);
-  memcpy(state.all + GUARD + NUMBERS + FRAME, window, WINDOW - FRAME);
-  check("feed", feed(window + WINDOW - FRAME, FRAME, DECISION), GORSEPETAL_DONE);
-  return out.all + GUARD;
-}
-
-static const struct {
-  const char *name;
-  const uint8_t *(*decided)(const uint8_t *, int, int);
-} calls[] = {{"decide", decided}, {"feed", fed}};
-enum { CALLS = sizeof calls / sizeof *calls };
 
 static const int reaches[] = {1, 499, 500, 501, 599, 600, 601, 850, 999, 1001, 1200, 1999, 2000};
 enum { REACHES = sizeof reaches / sizeof *reaches };
 
 static void second_zone_off(void) {
-  for (int c = 0; c < CALLS; c++)
+  for (int way = 0; way < WAYS; way++)
     for (int n = 0; n < WINDOWS; n++)
-      for (int k = 0; k < REACHES; k++) check(calls[c].name, calls[c].decided(nth_window(n), reaches[k], OFF)[SECOND_ZONE], 0);
+      for (int k = 0; k < REACHES; k++) check(ways[way].name, decided(way, nth_window(n), reaches[k], OFF)[SECOND_ZONE], 0);
 }
 
 /* The fault that docs/HAND-CHECKS.md works out: forward, and loop AG asserts from a reach of 600. */
@@ -184,13 +157,13 @@ static void second_zone_at_its_edge(void) {
   };
   uint8_t window[WINDOW];
   fault_on(window, 0, 1, 1);
-  for (int c = 0; c < CALLS; c++)
+  for (int way = 0; way < WAYS; way++)
     for (size_t k = 0; k < sizeof edges / sizeof *edges; k++) {
       uint8_t wanted[DECISION] = {0, 0, 0, 1, 0, 0, 0, 0, 0, 0x01, 0xF4, 0x00};
       wanted[0] = wanted[2] = (uint8_t)edges[k].loops; /* the second zone has no part in the trip */
       wanted[4] = (uint8_t)edges[k].zone;
-      calls[c].decided(window, edges[k].first, edges[k].second);
-      out_is(calls[c].name, wanted);
+      decided(way, window, edges[k].first, edges[k].second);
+      out_is(ways[way].name, wanted);
     }
 }
 
@@ -200,11 +173,11 @@ static void fault_beyond_the_first_zone(void) {
   uint8_t window[WINDOW];
   fault_on(window, 0, 1, 1);
   phasor(window, 0, 1600, 0);
-  for (int c = 0; c < CALLS; c++)
+  for (int way = 0; way < WAYS; way++)
     for (size_t k = 0; k < sizeof seconds / sizeof *seconds; k++) {
       uint8_t wanted[DECISION] = {0, 0, 0, 1, (uint8_t)seconds[k][1], 0, 0, 0, 0, 0x01, 0xF4, 0x00};
-      calls[c].decided(window, 850, seconds[k][0]);
-      out_is(calls[c].name, wanted);
+      decided(way, window, 850, seconds[k][0]);
+      out_is(ways[way].name, wanted);
     }
 }
 
@@ -213,29 +186,29 @@ static void each_loop_in_the_second_zone(void) {
   static const int loops[2][3] = {{GORSEPETAL_LOOP_BC, GORSEPETAL_LOOP_CA, GORSEPETAL_LOOP_AB},
                                   {GORSEPETAL_LOOP_AG, GORSEPETAL_LOOP_BG, GORSEPETAL_LOOP_CG}};
   uint8_t window[WINDOW];
-  for (int c = 0; c < CALLS; c++)
+  for (int way = 0; way < WAYS; way++)
     for (int x = 0; x < 3; x++)
       for (int to_ground = 0; to_ground < 2; to_ground++) {
         fault_on(window, x, to_ground, 1);
-        const uint8_t *found = calls[c].decided(window, 1, 850);
+        const uint8_t *found = decided(way, window, 1, 850);
         check("second zone", found[SECOND_ZONE], (uint64_t)loops[to_ground][x]);
         check("first zone", found[GORSEPETAL_DECISION_AT_LOOPS], 0);
         check("direction", found[GORSEPETAL_DECISION_AT_DIRECTION], GORSEPETAL_DIRECTION_FORWARD);
         check("trip", found[GORSEPETAL_DECISION_AT_TRIP], 0);
         fault_on(window, x, to_ground, -1);
-        check("behind", calls[c].decided(window, 1, 850)[SECOND_ZONE], 0);
+        check("behind", decided(way, window, 1, 850)[SECOND_ZONE], 0);
       }
 }
 
 /* What the loops are at a reach does not depend on which of the two it is. All six are seen, and all six are not seen. */
 static void same_rule_in_both_zones(void) {
-  for (int c = 0; c < CALLS; c++) {
+  for (int way = 0; way < WAYS; way++) {
     int some = 0, all = ALL_LOOPS;
     for (int n = 0; n < WINDOWS; n++)
       for (int k = 0; k < REACHES; k++) {
-        int bits = calls[c].decided(nth_window(n), reaches[k], OFF)[GORSEPETAL_DECISION_AT_LOOPS];
-        check("as the first reach is", calls[c].decided(nth_window(n), 1, reaches[k])[SECOND_ZONE], (uint64_t)bits);
-        check("both alike", calls[c].decided(nth_window(n), reaches[k], reaches[k])[SECOND_ZONE], (uint64_t)bits);
+        int bits = decided(way, nth_window(n), reaches[k], OFF)[GORSEPETAL_DECISION_AT_LOOPS];
+        check("as the first reach is", decided(way, nth_window(n), 1, reaches[k])[SECOND_ZONE], (uint64_t)bits);
+        check("both alike", decided(way, nth_window(n), reaches[k], reaches[k])[SECOND_ZONE], (uint64_t)bits);
         some |= bits;
         all &= bits;
       }
@@ -247,15 +220,15 @@ static void same_rule_in_both_zones(void) {
 /* Two records that differ in the second reach alone: all bytes are the same, but byte 4. And that has what byte 2 has. */
 static void other_bytes_stay(void) {
   static const int firsts[] = {1, 600, 850, MOST};
-  for (int c = 0; c < CALLS; c++)
+  for (int way = 0; way < WAYS; way++)
     for (int n = 0; n < WINDOWS; n++)
       for (size_t f = 0; f < sizeof firsts / sizeof *firsts; f++) {
         uint8_t off[DECISION];
-        memcpy(off, calls[c].decided(nth_window(n), firsts[f], OFF), DECISION);
+        memcpy(off, decided(way, nth_window(n), firsts[f], OFF), DECISION);
         for (int k = 0; k < REACHES; k++) {
           if (reaches[k] < firsts[f]) continue;
           uint8_t wanted[DECISION];
-          const uint8_t *on = calls[c].decided(nth_window(n), firsts[f], reaches[k]);
+          const uint8_t *on = decided(way, nth_window(n), firsts[f], reaches[k]);
           memcpy(wanted, off, DECISION);
           wanted[SECOND_ZONE] = on[SECOND_ZONE];
           out_is("all bytes but byte 4", wanted);
@@ -267,7 +240,7 @@ static void other_bytes_stay(void) {
 
 /* The zone asserts at every direction: forward above, none here, and reverse by limits that call everything reverse. */
 static void second_zone_by_no_direction(void) {
-  const uint8_t *found = decided(nth_window(BALANCED), 850, 1200);
+  const uint8_t *found = decided(BY_DECIDE, nth_window(BALANCED), 850, 1200);
   static const uint8_t lamp_alone[5] = {0, 0, 0, GORSEPETAL_DIRECTION_NONE, ALL_LOOPS};
   check_bytes("none", found, lamp_alone, sizeof lamp_alone);
   uint8_t window[WINDOW], record[RECORD];

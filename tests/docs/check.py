@@ -5,7 +5,8 @@
   their definitions, and no others; its version is the newest of docs/CHANGES.md. Its manual names nothing of the library that it does not
   declare. In it the tables of numbers, of fields, of the state, of the window, of a decision and of the loops, each call's list of checks,
   what is said of feed and the formulas of the rules have the source's figures and order, the limits those of the transform, the worked
-  record follows from its own formulas, and the worked decision from the independent program.
+  record follows from its own formulas, and the worked decision, the tests at the panel and what is said of balanced faults from the
+  independent program.
 - What docs/RULES.md and the manual say that an answer leaves of the state and of the lent room is what the independent program leaves.
 - In README.md, docs/ and tests/independent/README.md each path in backticks is there (`*` stands for any name), and each link leads to a
   file and a heading that are. In README.md and docs/, in `name` in `path`, or `a`, `b` in `path`, each name is declared in that file; below
@@ -28,6 +29,7 @@ import sys
 
 sys.dont_write_bytecode = True
 import axioms  # noqa: E402
+import balanced  # noqa: E402
 import boundary  # noqa: E402
 import documents  # noqa: E402
 import hand_checks  # noqa: E402
@@ -61,6 +63,9 @@ def main():
         'settings worked out in the manual': worked.check_example(),
         'steps of the decision worked out in the manual': worked.check_decision(),
         'tests at the panel': worked.check_tests(),
+        'figures of the zones under load': balanced.check_load(),
+        'sentences on lost voltages': balanced.check_fuses(),
+        'faults close behind': balanced.check_behind(),
         'rows on what an answer leaves': left.check_left(),
         'sums in the hand checks': hand_checks.check_sums(),
         'calls of a root in the hand checks': hand_checks.check_root(),

@@ -127,7 +127,7 @@ def six_loops():
 
 # Each part of a decision that has one byte, by the definition of its bytes. What the trip is made of stands there too: the second zone is
 # not among it.
-PARTS = {'trip (f .operating) (f .asserting) (f .direction)': 'TRIP', 'f .operating': 'PHASES', 'f .asserting': 'LOOPS',
+PARTS = {'trip (f .operating) (f .asserting) (f .direction) (f .unbalanced)': 'TRIP', 'f .operating': 'PHASES', 'f .asserting': 'LOOPS',
          'directionNumber (f .direction)': 'DIRECTION', 'f .overreaching': 'SECOND_ZONE'}
 
 

@@ -1,5 +1,5 @@
-"""Holds what the manual in include/gorsepetal.h works out: its record to its own formulas, and its decisions, its lamp under load and its
-tests at the panel to the independent program."""
+"""Holds what the manual in include/gorsepetal.h works out: its record to its own formulas, and its decisions and its tests at the panel to
+the independent program."""
 import cmath
 import math
 import re
@@ -45,7 +45,7 @@ def check_example():
     divided = f'{over:.0f} x {abs(farthest):.3f} / {abs(z1):.3f} = {second:.0f}'
     if divided not in words(text):
         faults.append(f'{HEADER}: the worked line does not show "{divided}"')
-    return len(wanted) + check_load(worked_record())
+    return len(wanted)
 
 
 def relay(record):
@@ -213,6 +213,25 @@ def reverse(record, f):
     return tested(record, SOUND - f * 1.3 * AMPERE, -AMPERE * abs(Z1) / Z1)[3]
 
 
+def without_differential(record):
+    """The same record with a slope of 100, at which no phase operates."""
+    return record[:2] + bytes([0, 100]) + record[4:]
+
+
+def in_all_phases(record, volt, ampere, lost=()):
+    """The decision on three voltages alike, but for those that are lost, and three currents, by distance alone."""
+    turns = [cmath.rect(1, turn) for turn in TURNS]
+    return from_test_set(without_differential(record), [0 if phase in lost else volt * turn for phase, turn in enumerate(turns)],
+                         [ampere * turn for turn in turns])
+
+
+def balanced(record, f):
+    """The trip, the loops and the direction at a part f of the reach, and the loops with the currents turned round."""
+    volts, ampere = f * 0.8 * abs(Z1) * AMPERE, AMPERE * abs(Z1) / Z1
+    ahead, turned_round = in_all_phases(record, volts, ampere), in_all_phases(record, volts, -ampere)
+    return ahead[0], ahead[2], ahead[3], turned_round[2]
+
+
 def check_tests():
     """Each test of the manual gives what it says by the worked record, and something else by the same in thousandths of an ohm."""
     right = worked_record()
@@ -222,36 +241,12 @@ def check_tests():
     tests = ((reach, f'|Z (1 + k)| x Ia. In byte 2 {of_reach}', {0.95: 1, 1.05: 0}),
              (second_reach, f'In byte 4 {of_reach}. In byte 2 it has to be clear at both', {0.95: (0, 1), 1.05: (0, 0)}),
              (forward, 'The direction has to be forward at f = 1.05 and none at f = 0.95', {1.05: 1, 0.95: 0}),
-             (reverse, 'The direction has to be reverse at f = 1.05 and none at f = 0.95', {1.05: 2, 0.95: 0}))
+             (reverse, 'The direction has to be reverse at f = 1.05 and none at f = 0.95', {1.05: 2, 0.95: 0}),
+             (balanced, 'Byte 2 has to be 63 at f = 0.95 and 0 at f = 1.05, and byte 3 has to be 0 at both',
+              {0.95: (1, 63, 0, 0), 1.05: (0, 0, 0, 0)}))
     for test, sentence, wanted in tests:
         if sentence not in text:
             faults.append(f'{HEADER}: the tests at the panel do not say "{sentence}"')
         if any(test(right, f) != said for f, said in wanted.items()) or all(test(wrong, f) == said for f, said in wanted.items()):
             faults.append(f'{HEADER}: the test of {test.__name__} does not tell the right record from the one in thousandths of an ohm')
     return len(tests)
-
-
-# The lamp under load
-
-
-def lamp(record, volts, amperes, degrees):
-    """The second zone under a balanced load, whose currents are behind the voltages by so many degrees."""
-    behind = math.radians(degrees)
-    return from_test_set(record, [cmath.rect(volts, turn) for turn in TURNS], [cmath.rect(amperes, turn - behind) for turn in TURNS])[4]
-
-
-def check_load(record):
-    """How far the worked second zone goes under load, by the manual's formula; and the lamp is dark at the current that it names, and lit at
-    the next tenth of an ampere."""
-    text = plain('A LINE OF THREE ENDS, WORKED OUT')
-    given = re.search(r'load angle of (\d+) degrees .* at (\d+) V the lamp stays dark up to ([\d.]+) A', text)
-    degrees, volts, amperes = map(float, given.groups() if given else (0, 0, 0))
-    part, angle = int.from_bytes(record[26:28], 'big') / 1000, math.degrees(cmath.phase(Z1))
-    ends = part * abs(Z1)
-    at_load = ends * math.cos(math.radians(angle - degrees))
-    wanted = [f'{part:g} x {abs(Z1):.3f} = {ends:.2f} ohm', f'{ends:.2f} x cos({angle:.2f} - {degrees:g}) = {at_load:.2f} ohm',
-              f'up to {math.floor(10 * volts / at_load) / 10} A']
-    faults.extend(f'{HEADER}: the worked line does not show "{sum_}"' for sum_ in wanted if sum_ not in text)
-    if [bool(lamp(record, volts, amperes + more, degrees)) for more in (0, 0.1)] != [False, True]:
-        faults.append(f'{HEADER}: at {volts:g} V and {degrees:g} degrees the lamp does not begin to light between {amperes} A and a tenth more')
-    return len(wanted)

@@ -1,16 +1,17 @@
--- The bits of a number made of yes and no are these; so they tell the facts behind them, and it is 0 exactly where none of these holds.
-use Prim.Native.Nat.{ℕ, zero, suc, _+_, _*_, _/_, _%_}
+-- The bits of a number made of yes and no are these; so they tell the facts behind them. It is 0 exactly where none of these holds, and
+-- has every bit set exactly where all do.
+use Prim.Native.Nat.{ℕ, zero, suc, _+_, _*_, _/_, _%_, _≤_}
 use mathlib.Core.Path.{_≡_, refl, sym, ap, _∙_}
 use mathlib.Core.Logic.{inl, inr, ⊎-elim}
 use mathlib.Core.List.{List, [], _∷_}
 use mathlib.Core.Bool.{Bool, true, false, not, cond, false≢true}
 use native.Mathlib.Omega.{arith}
-use borrow.Author.Tests.{ne-eqb}
+use borrow.Author.Tests.{eq-eqb, ne-eqb, eqb-true}
 use lib.ListN.{getD}
 use lib.Dec.{eqb}
 use Rattle.whole.specs.Bits.{bits}
 use Rattle.whole.specs.Exactly.{Exactly}
-use Rattle.claims.specs.Bits.{isSet, BitsTell, AnyOf}
+use Rattle.claims.specs.Bits.{isSet, BitsTell, AnyOf, AllOf}
 
 -- no bit of 0 is set
 none-of-zero : (k : ℕ) → isSet k 0 ≡ false
@@ -70,6 +71,42 @@ any-of (false ∷ bs) (A ∷ As) es =
     let more = any-of bs As (es .1) in
     let same = ap not (doubled (bits bs)) in
     (λ t. inr (more .0 (sym same ∙ t)), ⊎-elim (λ a. absurd (false≢true (es .0 .1 a))) (λ some. same ∙ more .1 some))
+
+-- the number with as many bits, all set
+abbrev pub full : List Bool → ℕ
+full [] = 0
+full (b ∷ bs) = 1 + 2 * full bs
+
+pub bits-most : (bs : List Bool) → bits bs ≤ full bs
+bits-most [] = omega arith
+bits-most (true ∷ bs) = let h = bits-most bs in omega (arith, h)
+bits-most (false ∷ bs) = let h = bits-most bs in omega (arith, h)
+
+-- three bits more in front: the others are those of an eighth
+pub behind-three : (a b c : Bool) (bs : List Bool) → bits (a ∷ b ∷ c ∷ bs) / 8 ≡ bits bs
+behind-three a b c bs =
+    let first = rest a (bits (b ∷ c ∷ bs)) in let second = rest b (bits (c ∷ bs)) in let third = rest c (bits bs) in
+    omega (arith, first, second, third)
+
+odd-alike : (n m : ℕ) → eqb (1 + 2 * n) (1 + 2 * m) ≡ eqb n m
+odd-alike n m = by-test (eqb n m) refl
+  where
+    by-test : (b : Bool) → eqb n m ≡ b → eqb (1 + 2 * n) (1 + 2 * m) ≡ b
+    by-test true t = let e = eqb-true n m t in eq-eqb (1 + 2 * n) (1 + 2 * m) (omega (arith, e))
+    by-test false t = ne-eqb (1 + 2 * n) (1 + 2 * m) (λ e. false≢true (sym t ∙ eq-eqb n m (omega (arith, e))))
+
+-- and they are all set exactly where all of the facts hold
+pub all-of : (bs : List Bool) (As : List (Type 0)) → Each bs As → Exactly (eqb (bits bs) (full bs) ≡ true) (AllOf As)
+all-of [] [] es = (λ t. tt, λ a. refl)
+all-of [] (A ∷ As) es = absurd es
+all-of (b ∷ bs) [] es = absurd es
+all-of (true ∷ bs) (A ∷ As) es =
+    let more = all-of bs As (es .1) in
+    let same = odd-alike (bits bs) (full bs) in
+    (λ t. (es .0 .0 refl, more .0 (sym same ∙ t)), λ all. same ∙ more .1 (all .1))
+all-of (false ∷ bs) (A ∷ As) es =
+    let clear : eqb (0 + 2 * bits bs) (1 + 2 * full bs) ≡ false = ne-eqb (0 + 2 * bits bs) (1 + 2 * full bs) (λ e. omega arith) in
+    (λ t. absurd (false≢true (sym clear ∙ t)), λ all. absurd (false≢true (es .0 .1 (all .0))))
 
 -- no bit of 0 tells anything
 pub none-told : (k : ℕ) (As : List (Type 0)) → BitsTell 0 k As → AnyOf As → ⊥

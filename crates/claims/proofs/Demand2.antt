@@ -4,7 +4,7 @@ use Prim.Native.Nat.{ℕ, zero, suc, _+_, _*_, _/_, _%_, _≤_, _<_}
 use mathlib.Core.Path.{_≡_, refl, sym, subst, ap, _∙_}
 use mathlib.Core.Logic.{_⊎_, inl, inr, ⊎-elim}
 use mathlib.Core.List.{List, [], _∷_, _++_}
-use mathlib.Core.Bool.{Bool, true, false, cond, false≢true, _&&_, _||_}
+use mathlib.Core.Bool.{Bool, true, false, not, cond, true≢false, false≢true, _&&_, _||_}
 use native.Mathlib.Omega.{arith}
 use borrow.Author.Tests.{eqb-true}
 use lib.Dec.{eqb}
@@ -14,28 +14,30 @@ use lib.Signed.{_<ℤ_}
 use Rattle.whole.specs.Bits.{bits}
 use Rattle.whole.specs.Exactly.{Exactly}
 use Rattle.whole.specs.Root.{floorRoot}
-use Rattle.claims.specs.Bits.{BitsTell}
-use Rattle.claims.proofs.Bits.{Each, bits-tell, any-of}
+use Rattle.claims.specs.Bits.{BitsTell, AllOf}
+use Rattle.claims.proofs.Bits.{Each, bits-tell, any-of, bits-most, behind-three, all-of}
+use Rattle.plane.specs.declared.Phasor.{Phasor}
 use Rattle.settings.specs.Fields.{ends, slope, pickup, reach, forwardLimit, reverseLimit, secondReach}
 use Rattle.distance.specs.declared.direction.Direction.{Direction}
 use Rattle.distance.specs.declared.direction.Direction.the-variants as direction
 use Rattle.distance.specs.Sequence.{negativeSequence}
 use Rattle.distance.specs.Constants.{replica}
-use Rattle.distance.specs.Direction.{directionOf, directionNumber}
+use Rattle.distance.specs.Direction.{reachesPickup, directionOf, directionNumber}
 use Rattle.distance.specs.declared.mho.Loop.{Loop}
 use Rattle.distance.specs.declared.mho.SixLoops.{SixLoops}
 use Rattle.distance.specs.Mho.{ratioOf, asserts, loopBits}
-use Rattle.distance.proofs.Laws.{mho-rule, forward-rule, reverse-rule}
+use Rattle.distance.specs.Laws.{PickupReached}
+use Rattle.distance.proofs.Laws.{mho-rule, pickup-reached, below-pickup, forward-rule, reverse-rule}
 use Rattle.differential.specs.Differential.{comparison, magnitude, operates, operatingBits}
 use Rattle.differential.proofs.Rule.{operates-rule}
-use Rattle.decision.specs.Decision.{voltages, currentsOfEnd1, findings, isForward, decisionLength, decision}
+use Rattle.decision.specs.Decision.{voltages, currentsOfEnd1, findings, isForward, allPhaseLoops, balancedFault, decisionLength, decision}
 use Rattle.gorsepetal.proofs.Good.{in-range}
-use Rattle.claims.specs.Demand2.{phaseCurrents, squareOf, restraintOf, phaseFacts, sixLoops, loopFacts, DirectionForward, wordAt, Tells, Demand2}
+use Rattle.claims.specs.Demand2.{phaseCurrents, squareOf, restraintOf, phaseFacts, sixLoops, phaseLoopFacts, loopFacts, DirectionForward, Balanced, TripsBalanced, byte, wordAt, Tells, Demand2}
 use Rattle.claims.proofs.Decisions.{good, front}
 
 -- ---- 1 or 0, and the trip rule
 
-abbrev flag : Bool → ℕ
+abbrev pub flag : Bool → ℕ
 flag b = cond b 1 0
 
 one : {T : Type 0} (b : Bool) → Exactly (b ≡ true) T → Exactly (flag b ≡ 1) T
@@ -46,10 +48,17 @@ nought : {T : Type 0} (b : Bool) → Exactly (b ≡ true) T → Exactly (flag b 
 nought true h = (λ e. absurd (omega arith), λ f. absurd (f (h .0 refl)))
 nought false h = (λ e t. false≢true (h .1 t), λ f. refl)
 
-rule : {A B C : Type 0} (x y z : Bool) → Exactly (x ≡ true) A → Exactly (y ≡ true) B → Exactly (z ≡ true) C → Exactly (x || (y && z) ≡ true) (A ⊎ (B × C))
-rule true y z p q r = (λ e. inl (p .0 refl), λ e. refl)
-rule false true z p q r = (λ e. inr (q .0 refl, r .0 e), ⊎-elim (λ a. absurd (false≢true (p .1 a))) (λ bc. r .1 (bc .1)))
-rule false false z p q r = (λ e. absurd (false≢true e), ⊎-elim (λ a. p .1 a) (λ bc. q .1 (bc .0)))
+either : {A B : Type 0} (x y : Bool) → Exactly (x ≡ true) A → Exactly (y ≡ true) B → Exactly (x || y ≡ true) (A ⊎ B)
+either true y p q = (λ e. inl (p .0 refl), λ e. refl)
+either false y p q = (λ e. inr (q .0 e), ⊎-elim (λ a. absurd (false≢true (p .1 a))) (q .1))
+
+both : {A B : Type 0} (x y : Bool) → Exactly (x ≡ true) A → Exactly (y ≡ true) B → Exactly (x && y ≡ true) (A × B)
+both true y p q = (λ e. (p .0 refl, q .0 e), λ ab. q .1 (ab .1))
+both false y p q = (λ e. absurd (false≢true e), λ ab. p .1 (ab .0))
+
+fails : {A : Type 0} (x : Bool) → Exactly (x ≡ false) A → Exactly (not x ≡ true) A
+fails true p = (λ e. absurd (false≢true e), λ a. absurd (true≢false (p .1 a)))
+fails false p = (λ e. p .0 refl, λ a. refl)
 
 -- ---- the direction's number: each is that of its direction alone
 
@@ -78,12 +87,6 @@ number-0 : (d : Direction) → (d ≡ direction.Forward → ⊥) → (d ≡ dire
 number-0 direction.None f r = refl
 number-0 direction.Forward f r = absurd (f refl)
 number-0 direction.Reverse f r = absurd (r refl)
-
--- ---- bits
-
-most : (b : Bool) → flag b ≤ 1
-most true = omega arith
-most false = omega arith
 
 -- ---- words
 
@@ -118,7 +121,23 @@ module _ (s : List ℕ) (w : List ℤ) where
     each-loop = (mho-rule _ _, (mho-rule _ _, (mho-rule _ _, (mho-rule _ _, (mho-rule _ _, (mho-rule _ _, tt))))))
 
     few-bits : bits assert < 64
-    few-bits = omega (arith, most (asserting (six .ag)), most (asserting (six .bg)), most (asserting (six .cg)), most (asserting (six .ab)), most (asserting (six .bc)), most (asserting (six .ca)))
+    few-bits = let h = bits-most assert in omega (arith, h)
+
+    -- AB, BC and CA are the bits above the first three
+    abbrev assert-phase : List Bool
+    assert-phase = asserting (six .ab) ∷ asserting (six .bc) ∷ asserting (six .ca) ∷ []
+
+    upper-bits : bits assert / 8 % 8 ≡ bits assert-phase
+    upper-bits =
+        let e = behind-three (asserting (six .ag)) (asserting (six .bg)) (asserting (six .cg)) assert-phase in
+        let h = bits-most assert-phase in
+        omega (arith, e, h)
+
+    all-phase-loops : Exactly (allPhaseLoops (bits assert) ≡ true) (AllOf (phaseLoopFacts s w r))
+    all-phase-loops =
+        let all = all-of assert-phase (phaseLoopFacts s w r) (each-loop .1 .1 .1) in
+        let same = ap (λ n. eqb n 7) upper-bits in
+        (λ t. all .0 (sym same ∙ t), λ a. same ∙ all .1 a)
 
   -- byte 4, by whether the second zone is off
   abbrev pub second : Bool → ℕ
@@ -146,21 +165,29 @@ module _ (s : List ℕ) (w : List ℤ) where
   magnitude-word rest (suc (suc zero)) l = word-is (floorRoot (4096 * squareOf s w 2))
   magnitude-word rest (suc (suc (suc p))) l = absurd (omega arith)
 
+  abbrev pub i2 : Phasor
+  i2 = negativeSequence (currentsOfEnd1 s w)
+
+  pub trips-balanced : Exactly (balancedFault (bits (assert (reach s))) (reachesPickup s i2) ≡ true) (TripsBalanced s w)
+  trips-balanced =
+      let below : Exactly (not (reachesPickup s i2) ≡ true) (Balanced s w) = fails _ (below-pickup s i2) in
+      both _ _ below (all-phase-loops (reach s))
+
   tells : (rest : List ℕ) → forwardLimit s <ℤ reverseLimit s → Tells s w (decision s w ++ rest)
   unfolding findings operatingBits loopBits magnitude
   tells rest order =
-      let i2 = negativeSequence (currentsOfEnd1 s w) in
       let v2 = negativeSequence (voltages s w) in
       let d = directionOf s v2 i2 in
       let forward = forward-rule s v2 i2 in
       let reverse = reverse-rule s v2 i2 order in
       let ahead : Exactly (isForward d ≡ true) (DirectionForward s w) = (λ t. forward .0 (forward-is d t), λ f. ap isForward (forward .1 f)) in
-      let trips = rule _ _ _ (any-of operate (phaseFacts s w) each-phase) ahead (any-of (assert (reach s)) (loopFacts s w (reach s)) (each-loop (reach s))) in
+      let ahead-in-reach = both _ _ ahead (any-of (assert (reach s)) (loopFacts s w (reach s)) (each-loop (reach s))) in
+      let trips = either _ _ (any-of operate (phaseFacts s w) each-phase) (either _ _ ahead-in-reach trips-balanced) in
       record {
         trip = one _ trips;
         no-trip = nought _ trips;
         phase-bits = bits-tell operate (phaseFacts s w) each-phase;
-        three-bits = omega (arith, most (operating 0), most (operating 1), most (operating 2));
+        three-bits = let h = bits-most operate in omega (arith, h);
         loop-bits = bits-tell (assert (reach s)) (loopFacts s w (reach s)) (each-loop (reach s));
         six-bits = few-bits (reach s);
         forward = (λ e. forward .0 (number-1 d e), λ f. ap directionNumber (forward .1 f));
@@ -173,6 +200,14 @@ module _ (s : List ℕ) (w : List ℤ) where
         restraints = restraint-word rest;
         magnitudes = magnitude-word rest;
       }
+
+-- 3I2 does not reach its pickup and lie below it
+pub not-reached : (s : List ℕ) (w : List ℤ) → Balanced s w → PickupReached s (i2 s w) → ⊥
+not-reached s w below reached = true≢false (sym (pickup-reached s (i2 s w) .1 reached) ∙ below-pickup s (i2 s w) .1 below)
+
+-- so a balanced fault has no direction
+pub reads-none : (s : List ℕ) (w : List ℤ) (d : List ℕ) → Tells s w d → Balanced s w → byte d 3 ≡ 0
+reads-none s w d told below = told .none .1 (λ forward. not-reached s w below (forward .0), λ reverse. not-reached s w below (reverse .0))
 
 pub demand-2 : Demand2
 demand-2 s w out d c =

@@ -30,7 +30,7 @@ use Rattle.gorsepetal.proofs.Good.{in-range}
 use Rattle.claims.specs.Demand2.{phaseCurrents, squareOf, phaseFacts, loopFacts, Operates, byte}
 use Rattle.claims.specs.Demand3.{sums, Demand3First, Demand3Second, TripHasReason, fault, through, FaultTrips, ThroughDoesNot, ThroughIsQuiet}
 use Rattle.claims.proofs.Decisions.{good, front}
-use Rattle.claims.proofs.Demand2.{operating, operate, demand-2}
+use Rattle.claims.proofs.Demand2.{operating, operate, reads-none, demand-2}
 
 -- the bit of a phase in a decision
 bit : (s : List ℕ) (w : List ℤ) (rest : List ℕ) (p : ℕ) → p < 3 → isSet p (byte (decision s w ++ rest) 1) ≡ operating s w p
@@ -83,7 +83,10 @@ trip-has-reason r w out d c tripped =
     let told = demand-2 r w out d c .0 in
     ⊎-elim
     (λ any. let p = which r w any in let set = bit-set r w out d c (p .0) (p .1) (p .2) in inl (p .0, p .1, set, demand-3-first r w out d (p .0) (p .1) c set))
-    (λ ahead. inr (told .forward .1 (ahead .0), λ none. none-told 0 (loopFacts r w (reach r)) (subst (λ n. BitsTell n 0 (loopFacts r w (reach r))) none (told .loop-bits)) (ahead .1)))
+    (⊎-elim
+    (λ ahead. inr (inl (told .forward .1 (ahead .0), λ none. none-told 0 (loopFacts r w (reach r)) (subst (λ n. BitsTell n 0 (loopFacts r w (reach r))) none (told .loop-bits)) (ahead .1))))
+    (λ balanced. let three = told .loop-bits .1 .1 .1 in let all = balanced .1 in
+    inr (inr (balanced .0, reads-none r w d told (balanced .0), (three .0 .1 (all .0), (three .1 .0 .1 (all .1 .0), (three .1 .1 .0 .1 (all .1 .1 .0), tt)))))))
     (told .trip .0 tripped)
 
 -- ---- the two windows

@@ -12,6 +12,7 @@ pub mod Feeding
 pub mod Decisions
 pub mod Demand2
 pub mod SecondZone
+pub mod Balanced
 pub mod Demand3
 pub mod WhichRule
 pub mod HandChecks

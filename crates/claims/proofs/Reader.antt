@@ -9,6 +9,7 @@ use Rattle.claims.proofs.Feeding as feeding
 use Rattle.claims.proofs.Demand1 as demand-1
 use Rattle.claims.proofs.Demand2 as demand-2
 use Rattle.claims.proofs.SecondZone as second-zone
+use Rattle.claims.proofs.Balanced as balanced
 use Rattle.claims.proofs.Demand3 as demand-3
 use Rattle.claims.proofs.WhichRule as which-rule
 use Rattle.claims.proofs.Settings as settings
@@ -61,6 +62,10 @@ gorsepetal = record {
   second-zone-has-first = second-zone.second-zone-has-first;
   other-bytes-stay = second-zone.other-bytes-stay;
   records-from-before = second-zone.records-from-before;
+  balanced-fault = balanced.balanced-fault;
+  between-limits = balanced.between-limits;
+  no-voltage = balanced.no-voltage;
+  else-as-before = balanced.else-as-before;
   demand-3-first = demand-3.demand-3-first;
   demand-3-second = demand-3.demand-3-second;
   trip-has-reason = demand-3.trip-has-reason;
@@ -98,6 +103,7 @@ gorsepetal = record {
   larger-reach = distance.larger-reach;
   no-polarising = distance.no-polarising;
   no-positive = distance.no-positive;
+  none-below-pickup = distance.none-below-pickup;
   never-both = distance.never-both;
   forward-rule = distance.forward-rule;
   reverse-rule = distance.reverse-rule;

@@ -65,7 +65,7 @@ second-zone-has-first s w out d c on k t =
 
 -- what was found, with nothing in the second zone
 abbrev unlit : Findings → Findings
-unlit f = record { operating = f .operating; asserting = f .asserting; overreaching = 0; direction = f .direction; comparisons = f .comparisons }
+unlit f = record { operating = f .operating; asserting = f .asserting; overreaching = 0; unbalanced = f .unbalanced; direction = f .direction; comparisons = f .comparisons }
 
 but-4 : (f : Findings) (rest : List ℕ) (k : ℕ) → (k ≡ 4 → ⊥) → getD (decisionBytes f ++ rest) k 0 ≡ getD (decisionBytes (unlit f) ++ rest) k 0
 but-4 f rest zero n = refl

@@ -21,3 +21,8 @@ BitsTell n k (A ∷ As) = Exactly (isSet k n ≡ true) A × BitsTell n (suc k) A
 abbrev pub AnyOf : List (Type 0) → Type 0
 AnyOf [] = ⊥
 AnyOf (A ∷ As) = A ⊎ AnyOf As
+
+-- All of them hold.
+abbrev pub AllOf : List (Type 0) → Type 0
+AllOf [] = Unit {0}
+AllOf (A ∷ As) = A × AllOf As

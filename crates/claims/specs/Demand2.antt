@@ -1,6 +1,6 @@
--- Demand 2 (document 01, "Decision record"; document 02, CR 2, "All demands cover both zones"): every quantity in a decision equals its
--- definition. In all definitions s is the settings record in force, w the window's numbers, d what the buffer holds after the call, and
--- phases a, b, c are 0, 1, 2.
+-- Demand 2 (document 01, "Decision record"; document 02, CR 2, "All demands cover both zones", and CR 4, "The trip line in the decision
+-- table is amended"): every quantity in a decision equals its definition. In all definitions s is the settings record in force, w the
+-- window's numbers, d what the buffer holds after the call, and phases a, b, c are 0, 1, 2.
 use Prim.Native.Nat.{ℕ, _+_, _*_, _<_}
 use mathlib.Core.Path.{_≡_}
 use mathlib.Core.Logic.{_⊎_}
@@ -9,7 +9,7 @@ use lib.IntN.{ℤ, pos}
 use lib.ListN.{drop, getD}
 use Rattle.whole.specs.Exactly.{Exactly}
 use Rattle.whole.specs.Root.{floorRoot}
-use Rattle.claims.specs.Bits.{BitsTell, AnyOf}
+use Rattle.claims.specs.Bits.{BitsTell, AnyOf, AllOf}
 use Rattle.plane.specs.declared.Phasor.{Phasor}
 use Rattle.phasors.specs.Grid.{current}
 use Rattle.settings.specs.Fields.{ends, slope, pickup, reach, secondReach}
@@ -18,7 +18,7 @@ use Rattle.distance.specs.Constants.{replica}
 use Rattle.distance.specs.declared.mho.Loop.{Loop}
 use Rattle.distance.specs.declared.mho.SixLoops.{SixLoops}
 use Rattle.distance.specs.Mho.{ratioOf}
-use Rattle.distance.specs.Laws.{WithinReach, PickupReached, BelowForward, AboveReverse}
+use Rattle.distance.specs.Laws.{WithinReach, PickupReached, BelowPickup, BelowForward, AboveReverse}
 use Rattle.differential.specs.Differential.{square, restraint, comparison}
 use Rattle.differential.specs.Laws.{OperatesBy}
 use Rattle.decision.specs.Decision.{decisionLength, rateOf, voltages, currentsOfEnd1, loopsAt}
@@ -51,11 +51,14 @@ Asserts s r l = WithinReach (pos r) (ratioOf (replica s) l)
 abbrev pub sixLoops : List ℕ → List ℤ → SixLoops
 sixLoops s w = loopsAt s (voltages s w) (currentsOfEnd1 s w)
 
--- AG, BG, CG, AB, BC, CA, at the reach r
+-- AB, BC, CA, at the reach r
+abbrev pub phaseLoopFacts : List ℕ → List ℤ → ℕ → List (Type 0)
+phaseLoopFacts s w r = Asserts s r (sixLoops s w .ab) ∷ Asserts s r (sixLoops s w .bc) ∷ Asserts s r (sixLoops s w .ca) ∷ []
+
+-- AG, BG, CG, and these
 abbrev pub loopFacts : List ℕ → List ℤ → ℕ → List (Type 0)
 loopFacts s w r =
-    Asserts s r (sixLoops s w .ag) ∷ Asserts s r (sixLoops s w .bg) ∷ Asserts s r (sixLoops s w .cg)
-    ∷ Asserts s r (sixLoops s w .ab) ∷ Asserts s r (sixLoops s w .bc) ∷ Asserts s r (sixLoops s w .ca) ∷ []
+    Asserts s r (sixLoops s w .ag) ∷ Asserts s r (sixLoops s w .bg) ∷ Asserts s r (sixLoops s w .cg) ∷ phaseLoopFacts s w r
 
 -- "forward if T < zf |3I2|²", where 3I2 reaches its pickup
 abbrev pub DirectionForward : List ℕ → List ℤ → Type 0
@@ -65,9 +68,21 @@ DirectionForward s w = PickupReached s (negativeSequence (currentsOfEnd1 s w)) �
 abbrev pub DirectionReverse : List ℕ → List ℤ → Type 0
 DirectionReverse s w = PickupReached s (negativeSequence (currentsOfEnd1 s w)) × AboveReverse s (negativeSequence (voltages s w)) (negativeSequence (currentsOfEnd1 s w))
 
--- "any phase operates, or direction is forward and any loop asserts", at the first reach: the second zone "does not trip"
+-- "|3I2|² is below its pickup squared"
+abbrev pub Balanced : List ℕ → List ℤ → Type 0
+Balanced s w = BelowPickup s (negativeSequence (currentsOfEnd1 s w))
+
+-- "direction is forward and any loop asserts", at the first reach: the second zone "does not trip"
+abbrev pub TripsForward : List ℕ → List ℤ → Type 0
+TripsForward s w = DirectionForward s w × AnyOf (loopFacts s w (reach s))
+
+-- "if |3I2|² is below its pickup squared and AB, BC and CA all assert in the first zone" (document 02, CR 4)
+abbrev pub TripsBalanced : List ℕ → List ℤ → Type 0
+TripsBalanced s w = Balanced s w × AllOf (phaseLoopFacts s w (reach s))
+
+-- "any phase operates", or one of these two
 abbrev pub Trips : List ℕ → List ℤ → Type 0
-Trips s w = AnyOf (phaseFacts s w) ⊎ (DirectionForward s w × AnyOf (loopFacts s w (reach s)))
+Trips s w = AnyOf (phaseFacts s w) ⊎ (TripsForward s w ⊎ TripsBalanced s w)
 
 -- ---- and what the bytes of a decision tell of it
 

@@ -4,10 +4,10 @@ use Prim.Native.Nat.{ℕ, _*_, _≤_, _<_}
 use mathlib.Core.Path.{_≡_}
 use mathlib.Core.Bool.{true}
 use mathlib.Core.Logic.{_⊎_}
-use mathlib.Core.List.{List, _∷_}
+use mathlib.Core.List.{List, [], _∷_, map}
 use lib.IntN.{ℤ, pos}
 use lib.ListN.{replicate}
-use Rattle.claims.specs.Bits.{isSet}
+use Rattle.claims.specs.Bits.{isSet, AllOf}
 use Rattle.plane.specs.declared.Phasor.{Phasor}
 use Rattle.decision.specs.Decision.{rateOf}
 use Rattle.phasors.specs.Grid.{exactCurrent}
@@ -16,7 +16,7 @@ use Rattle.settings.specs.Fields.{ends, slope, pickup}
 use Rattle.settings.specs.Examples.{exampleRecord}
 use Rattle.differential.specs.Demand3.{NotBelow, Above, band}
 use Rattle.claims.specs.Decisions.{Decision}
-use Rattle.claims.specs.Demand2.{byte, squareOf}
+use Rattle.claims.specs.Demand2.{squareOf, Balanced, byte}
 
 -- A and B of each end
 abbrev pub sums : List ℕ → List ℤ → ℕ → ℕ → Phasor
@@ -35,12 +35,14 @@ Demand3Second =
     → pickup r * pickup r ≤ squareOf r w p → (m : ℕ) → 1 ≤ m → Above band (slope r) (ends r) (sums r w p) m
     → (isSet p (byte d 1) ≡ true) × (byte d 0 ≡ 1)
 
--- So a trip has its reason: a phase whose bit is set, which the first half allows; or a fault ahead in which a loop asserts.
+-- So a trip has its reason: a phase whose bit is set, which the first half allows; or a fault ahead in which a loop asserts; or a balanced
+-- fault, which has no direction, in which AB, BC and CA assert (document 02, CR 4).
 abbrev pub TripHasReason : Type 0
 TripHasReason =
     (r : List ℕ) (w : List ℤ) (out d : List ℕ) → Decision r w out d → byte d 0 ≡ 1
     → ((p : ℕ) × (p < 3) × (isSet p (byte d 1) ≡ true) × NotBelow band (slope r) (ends r) (sums r w p))
-    ⊎ ((byte d 3 ≡ 1) × (byte d 2 ≡ 0 → ⊥))
+    ⊎ (((byte d 3 ≡ 1) × (byte d 2 ≡ 0 → ⊥))
+    ⊎ (Balanced r w × (byte d 3 ≡ 0) × AllOf (map (λ k. isSet k (byte d 2) ≡ true) (3 ∷ 4 ∷ 5 ∷ []))))
 
 -- ---- neither half is empty, by two windows of two ends and the record of document 01's "Window program": slope 15, pickup 100
 

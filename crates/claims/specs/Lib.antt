@@ -10,6 +10,7 @@ pub mod Bits
 pub mod Decisions
 pub mod Demand2
 pub mod SecondZone
+pub mod Balanced
 pub mod Demand3
 pub mod WhichRule
 pub mod HandChecks

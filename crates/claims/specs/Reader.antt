@@ -2,7 +2,7 @@
 -- proofs/Reader.antt is its witness. That a call ends and keeps to what it was lent is what it means to be proved; the window program's lines
 -- are proved in `report`.
 use Rattle.settings.specs.Examples.{AsFound, ByOffset}
-use Rattle.distance.specs.Laws.{MhoRule, LargerReach, NoPolarising, NoPositive, NeverBoth, ForwardRule, ReverseRule}
+use Rattle.distance.specs.Laws.{MhoRule, LargerReach, NoPolarising, NoPositive, NoneBelowPickup, NeverBoth, ForwardRule, ReverseRule}
 use Rattle.differential.specs.Laws.{OperatesRule, SmallerSlope, NoneAt100, NeverTooSmall, ZeroWindow}
 use Rattle.differential.specs.Named.{NamedWindow, OneCountIsFalse, BandIsUsed}
 use Rattle.differential.specs.PaperMill.{PaperMill}
@@ -18,6 +18,7 @@ use Rattle.claims.specs.Unmoved.{FeedLeavesSettings, EntriesLeaveWindow,
 use Rattle.claims.specs.Feeding.{FirmwareHears, HearsOverHistories, PlaceFalls}
 use Rattle.claims.specs.Demand2.{Demand2}
 use Rattle.claims.specs.SecondZone.{SecondZoneHasFirst, OtherBytesStay, RecordsFromBefore}
+use Rattle.claims.specs.Balanced.{BalancedFault, BetweenLimits, NoVoltage, ElseAsBefore}
 use Rattle.claims.specs.Demand3.{Demand3First, Demand3Second, TripHasReason, FaultTrips, ThroughDoesNot, ThroughIsQuiet}
 use Rattle.claims.specs.WhichRule.{WhichRule, WhichRuleOverHistories, WhichRuleByFeeding, WhichRecord, WhichRecordOverHistories, SaidTwiceReadsBack, SaidTwiceDecides, SaidTwiceDecidesByFeeding}
 use Rattle.claims.specs.HandChecks.{HandChecks}
@@ -69,6 +70,11 @@ pub record Gorsepetal : Type 0 where
   pub second-zone-has-first : SecondZoneHasFirst
   pub other-bytes-stay : OtherBytesStay
   pub records-from-before : RecordsFromBefore
+  -- balanced faults, and what they do not move
+  pub balanced-fault : BalancedFault
+  pub between-limits : BetweenLimits
+  pub no-voltage : NoVoltage
+  pub else-as-before : ElseAsBefore
   -- demand 3: how far rounding can move the decision
   pub demand-3-first : Demand3First
   pub demand-3-second : Demand3Second
@@ -112,6 +118,7 @@ pub record Gorsepetal : Type 0 where
   pub larger-reach : LargerReach
   pub no-polarising : NoPolarising
   pub no-positive : NoPositive
+  pub none-below-pickup : NoneBelowPickup
   pub never-both : NeverBoth
   pub forward-rule : ForwardRule
   pub reverse-rule : ReverseRule

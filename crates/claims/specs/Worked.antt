@@ -1,13 +1,14 @@
 -- Whole decisions, from the samples to bytes 0 to 4: the paper mill's fault at both slopes, a fault on each of the six loops, one behind
--- the relay, and three beyond the first zone. In all but the mill's what flows in at end 1 flows out at end 2. docs/HAND-CHECKS.md works the
--- mill's and the AG faults out; the other loops' faults are like these, turned by a third.
-use Prim.Native.Nat.{ℕ}
+-- the relay, three beyond the first zone, and balanced faults (document 02, CR 4). In all but the mill's what flows in at end 1 flows out at
+-- end 2. docs/HAND-CHECKS.md works the mill's, the AG and the first of the balanced faults out; the other loops' faults are like these, turned
+-- by a third.
+use Prim.Native.Nat.{ℕ, _+_}
 use mathlib.Core.Path.{_≡_}
 use mathlib.Core.List.{List, [], _∷_, _++_, map}
 use lib.IntN.{ℤ, pos, _*ℤ_}
 use lib.ListN.{take, replicate}
 use Rattle.settings.specs.Record.{negated}
-use Rattle.settings.specs.Table.{offsetOf, slopeRow, pickupRow, secondReachRow}
+use Rattle.settings.specs.Table.{Rule, offsetOf, slopeRow, pickupRow, reachRow, secondReachRow}
 use Rattle.settings.specs.Examples.{exampleRecord, changed}
 use Rattle.decision.specs.Decision.{decision}
 use Rattle.claims.specs.HandChecks.{Complex}
@@ -46,12 +47,26 @@ abbrev pub farther : List ℕ → Worked
 farther bytes =
     through ((pos 1600, pos 0) ∷ (negated 1000, negated 1732) ∷ (negated 1000, pos 1732) ∷ []) ((pos 0, negated 1000) ∷ none ∷ none ∷ []) bytes
 
--- with a second reach
-abbrev pub zoned : ℕ → Worked → Worked
-zoned r x = record { settings = changed (x .settings) (offsetOf secondReachRow) r; phasors = x .phasors; bytes = x .bytes }
+-- with another setting
+abbrev pub with : Rule → ℕ → Worked → Worked
+with row n x = record { settings = changed (x .settings) (offsetOf row) n; phasors = x .phasors; bytes = x .bytes }
 
-abbrev pub worked : List Worked
-worked =
+-- a second reach
+abbrev pub zoned : ℕ → Worked → Worked
+zoned r x = with secondReachRow r x
+
+-- the voltages of a balanced fault halfway along Z, but Va, and its currents, with x counts more in phase a, so that 3I2 is (0,-x)
+abbrev pub halfway : ℕ → ℕ → List ℕ → Worked
+halfway va x bytes =
+    through ((pos va, pos 0) ∷ (negated 250, negated 433) ∷ (negated 250, pos 433) ∷ [])
+    ((pos 0, negated (1000 + x)) ∷ (negated 866, pos 500) ∷ (pos 866, pos 500) ∷ []) bytes
+
+-- the same currents, balanced, with other voltages
+abbrev pub at : List Complex → List ℕ → Worked
+at v bytes = through v ((pos 0, negated 1000) ∷ (negated 866, pos 500) ∷ (pos 866, pos 500) ∷ []) bytes
+
+abbrev pub directed : List Worked
+directed =
     -- the paper mill: slope 15, and 50
     mill 15 (1 ∷ 1 ∷ 0 ∷ 0 ∷ 0 ∷ [])
     ∷ mill 50 (0 ∷ 0 ∷ 0 ∷ 0 ∷ 0 ∷ [])
@@ -75,6 +90,37 @@ worked =
     ∷ zoned 1200 (through ((pos 2000, pos 0) ∷ (negated 1000, negated 480) ∷ (negated 1000, pos 480) ∷ []) (none ∷ (negated 500, pos 0) ∷ (pos 500, pos 0) ∷ []) (0 ∷ 0 ∷ 0 ∷ 1 ∷ 16 ∷ []))
     ∷ []
 
+abbrev pub balanced : List Worked
+balanced =
+    -- ahead, in the first zone; exactly at its reach, and one short of it
+    halfway 500 0 (1 ∷ 0 ∷ 63 ∷ 0 ∷ 0 ∷ [])
+    ∷ with reachRow 500 (halfway 500 0 (1 ∷ 0 ∷ 63 ∷ 0 ∷ 0 ∷ []))
+    ∷ with reachRow 499 (halfway 500 0 (0 ∷ 0 ∷ 0 ∷ 0 ∷ 0 ∷ []))
+    -- in the second zone alone
+    ∷ zoned 500 (with reachRow 499 (halfway 500 0 (0 ∷ 0 ∷ 0 ∷ 0 ∷ 63 ∷ [])))
+    -- behind: m is below zero
+    ∷ zoned 2000 (through ((pos 500, pos 0) ∷ (negated 250, negated 433) ∷ (negated 250, pos 433) ∷ []) ((pos 0, pos 1000) ∷ (pos 866, negated 500) ∷ (negated 866, negated 500) ∷ []) (0 ∷ 0 ∷ 0 ∷ 0 ∷ 0 ∷ []))
+    -- 3I2 one below its pickup, 50: whatever 3V2 is
+    ∷ halfway 480 49 (1 ∷ 0 ∷ 63 ∷ 0 ∷ 0 ∷ [])
+    ∷ halfway 500 49 (1 ∷ 0 ∷ 63 ∷ 0 ∷ 0 ∷ [])
+    ∷ halfway 520 49 (1 ∷ 0 ∷ 63 ∷ 0 ∷ 0 ∷ [])
+    -- and at its pickup: forward, T between the limits, reverse
+    ∷ halfway 480 50 (1 ∷ 0 ∷ 63 ∷ 1 ∷ 0 ∷ [])
+    ∷ halfway 500 50 (0 ∷ 0 ∷ 63 ∷ 0 ∷ 0 ∷ [])
+    ∷ halfway 520 50 (0 ∷ 0 ∷ 63 ∷ 2 ∷ 0 ∷ [])
+    -- all loops assert, but AB; but BC; but CA
+    ∷ at ((pos 818, pos 183) ∷ (negated 568, negated 617) ∷ (negated 150, pos 260) ∷ []) (0 ∷ 0 ∷ 55 ∷ 0 ∷ 0 ∷ [])
+    ∷ at ((pos 300, pos 0) ∷ (negated 250, negated 800) ∷ (negated 250, pos 800) ∷ []) (0 ∷ 0 ∷ 47 ∷ 0 ∷ 0 ∷ [])
+    ∷ at ((pos 818, negated 183) ∷ (negated 150, negated 260) ∷ (negated 568, pos 617) ∷ []) (0 ∷ 0 ∷ 31 ∷ 0 ∷ 0 ∷ [])
+    -- no ground loop asserts: a zero sequence hides the fault from them
+    ∷ through ((negated 1200, pos 0) ∷ (negated 1950, negated 433) ∷ (negated 1950, pos 433) ∷ []) ((pos 0, negated 640) ∷ (negated 866, pos 860) ∷ (pos 866, pos 860) ∷ []) (1 ∷ 0 ∷ 56 ∷ 0 ∷ 0 ∷ [])
+    -- no voltage
+    ∷ at (none ∷ none ∷ none ∷ []) (0 ∷ 0 ∷ 0 ∷ 0 ∷ 0 ∷ [])
+    ∷ []
+
 -- One claim over all of them.
+abbrev pub worked : List Worked
+worked = directed ++ balanced
+
 abbrev pub WorkedDecisions : Type 0
 WorkedDecisions = map (λ x. take 5 (decision (x .settings) (windowOf (x .phasors)))) worked ≡ map (λ x. x .bytes) worked

@@ -1,6 +1,7 @@
 -- Each way out of the trip rule and of decide, on plain numbers and lists.
 use Prim.Native.Nat.{ℕ, _≤_, _<_}
-use mathlib.Core.Path.{_≡_, _∙_}
+use mathlib.Core.Path.{_≡_, refl, sym, _∙_}
+use mathlib.Core.Bool.{Bool, true, false, _&&_, _||_}
 use mathlib.Core.List.{List}
 use borrow.Author.Tests.{eq-eqb, ne-eqb, le-leb, lt-leb}
 use lib.IntN.{ℤ}
@@ -13,27 +14,36 @@ use Rattle.samples.specs.Window.{windowLength, firstMissing}
 use Rattle.settings.specs.Fields.{ends}
 use Rattle.distance.specs.declared.direction.Direction.{Direction}
 use Rattle.distance.specs.declared.direction.Direction.the-variants.{None, Forward, Reverse}
-use Rattle.decision.specs.Decision.{trip, decision}
+use Rattle.decision.specs.Decision.{any, isForward, balancedFault, trip, decision}
 use Rattle.decision.specs.Decide.{Decided}
 
 -- ---- the trip rule
 
-module _ (phases loops : ℕ) (d : Direction) where
-  pub by-phase : (phases ≡ 0 → ⊥) → 1 ≡ trip phases loops d
+or-true : (b : Bool) → b || true ≡ true
+or-true true = refl
+or-true false = refl
+
+module _ (phases loops : ℕ) (d : Direction) (u : Bool) where
+  pub by-phase : (phases ≡ 0 → ⊥) → 1 ≡ trip phases loops d u
   by-phase p = rw (ne-eqb phases 0 p)
 
-  module _ (p : phases ≡ 0) where
-    pub by-loop : d ≡ Forward → (loops ≡ 0 → ⊥) → 1 ≡ trip phases loops d
-    by-loop f l = rw (p, f, ne-eqb loops 0 l)
+  -- b is whether the fault is a balanced one
+  module _ {b : Bool} (p : phases ≡ 0) (asked : b ≡ balancedFault loops u) where
+    pub by-balance : b ≡ true → 1 ≡ trip phases loops d u
+    by-balance t = rw (p, sym asked ∙ t, or-true (isForward d && any loops))
 
-    pub no-loop : d ≡ Forward → loops ≡ 0 → 0 ≡ trip phases loops d
-    no-loop f l = rw (p, f, l)
+    module _ (t : b ≡ false) where
+      pub by-loop : d ≡ Forward → (loops ≡ 0 → ⊥) → 1 ≡ trip phases loops d u
+      by-loop f l = rw (p, f, ne-eqb loops 0 l)
 
-    pub not-directed : d ≡ None → 0 ≡ trip phases loops d
-    not-directed f = rw (p, f)
+      pub no-loop : d ≡ Forward → loops ≡ 0 → 0 ≡ trip phases loops d u
+      no-loop f l = rw (p, sym asked ∙ t, f, l)
 
-    pub reversed : d ≡ Reverse → 0 ≡ trip phases loops d
-    reversed f = rw (p, f)
+      pub not-directed : d ≡ None → 0 ≡ trip phases loops d u
+      not-directed f = rw (p, sym asked ∙ t, f)
+
+      pub reversed : d ≡ Reverse → 0 ≡ trip phases loops d u
+      reversed f = rw (p, sym asked ∙ t, f)
 
 -- ---- decide
 

@@ -13,7 +13,7 @@ use Rattle.distance.specs.declared.direction.Direction.{Direction}
 use Rattle.distance.specs.declared.direction.Direction.the-variants.{None, Forward, Reverse}
 use Rattle.distance.specs.Sequence.{negativeSequence}
 use Rattle.distance.specs.Constants.{replica, compensation}
-use Rattle.distance.specs.Direction.{directionOf, directionNumber}
+use Rattle.distance.specs.Direction.{reachesPickup, directionOf, directionNumber}
 use Rattle.distance.specs.declared.mho.SixLoops.{SixLoops}
 use Rattle.distance.specs.Mho.{loopsOf, loopBits}
 use Rattle.differential.specs.declared.Comparisons.{Comparisons}
@@ -50,6 +50,10 @@ assertingBits s l = loopBits (replica s) (pos (reach s)) l
 abbrev pub overreachingBits : List ℕ → SixLoops → ℕ
 overreachingBits s l = cond (eqb (secondReach s) 0) 0 (loopBits (replica s) (pos (secondReach s)) l)
 
+-- 3I2 reaches its pickup
+abbrev pub unbalancedAt : List ℕ → Phases → Bool
+unbalancedAt s i = reachesPickup s (negativeSequence i)
+
 -- the direction, from 3V2 and 3I2
 abbrev pub directionAt : List ℕ → Phases → Phases → Direction
 directionAt s v i = directionOf s (negativeSequence v) (negativeSequence i)
@@ -60,6 +64,7 @@ findings s w =
       operating = operatingBits (slope s) (pickup s) (comparisonsOf s w);
       asserting = assertingBits s (loopsAt s (voltages s w) (currentsOfEnd1 s w));
       overreaching = overreachingBits s (loopsAt s (voltages s w) (currentsOfEnd1 s w));
+      unbalanced = unbalancedAt s (currentsOfEnd1 s w);
       direction = directionAt s (voltages s w) (currentsOfEnd1 s w);
       comparisons = comparisonsOf s w;
     }
@@ -75,9 +80,19 @@ isForward None = false
 isForward Forward = true
 isForward Reverse = false
 
--- "1 if any phase operates, or direction is forward and any loop asserts; else 0". The second zone "does not trip".
-abbrev pub trip : ℕ → ℕ → Direction → ℕ
-trip operating asserting direction = cond (any operating || (isForward direction && any asserting)) 1 0
+-- AB 8, BC 16 and CA 32 "all assert": these three bits of a byte of loops are set
+abbrev pub allPhaseLoops : ℕ → Bool
+allPhaseLoops n = eqb (n / 8 % 8) 7
+
+-- Document 02, CR 4: "if |3I2|² is below its pickup squared and AB, BC and CA all assert in the first zone"
+abbrev pub balancedFault : ℕ → Bool → Bool
+balancedFault asserting unbalanced = not unbalanced && allPhaseLoops asserting
+
+-- "1 if any phase operates, or direction is forward and any loop asserts; else 0", and a balanced fault "also sets trip". The second zone
+-- "does not trip".
+abbrev pub trip : ℕ → ℕ → Direction → Bool → ℕ
+trip operating asserting direction unbalanced =
+    cond (any operating || ((isForward direction && any asserting) || balancedFault asserting unbalanced)) 1 0
 
 -- ---- the bytes
 
@@ -93,7 +108,7 @@ word n = n / 16777216 ∷ n / 65536 % 256 ∷ n / 256 % 256 ∷ n % 256 ∷ []
 -- 4096 s, for a, b, c"
 abbrev pub decisionBytes : Findings → List ℕ
 decisionBytes f =
-    trip (f .operating) (f .asserting) (f .direction) ∷ f .operating ∷ f .asserting ∷ directionNumber (f .direction)
+    trip (f .operating) (f .asserting) (f .direction) (f .unbalanced) ∷ f .operating ∷ f .asserting ∷ directionNumber (f .direction)
     ∷ f .overreaching ∷ 0 ∷ 0 ∷ 0
     ∷ word (f .comparisons .a .restraint) ++ word (f .comparisons .b .restraint) ++ word (f .comparisons .c .restraint)
     ++ word (magnitude (f .comparisons .a)) ++ word (magnitude (f .comparisons .b)) ++ word (magnitude (f .comparisons .c))

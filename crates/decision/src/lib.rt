@@ -10,9 +10,10 @@ ghost use Rattle.settings.specs.Record.{recordLength};
 ghost use Rattle.settings.specs.Fields.{Ranges, ends};
 ghost use Rattle.differential.specs.Sizes.{AllSized};
 ghost use Rattle.decision.specs.Decide.{Decided};
-ghost use Rattle.decision.specs.Decision.{loopsAt, assertingBits, overreachingBits, directionAt, findings, trip, word, decisionBytes, decision};
+ghost use Rattle.decision.specs.Decision.{loopsAt, assertingBits, overreachingBits, unbalancedAt, directionAt, findings, balancedFault, trip, word, decisionBytes, decision};
 use answers::Answer;
 use differential::Comparisons;
+use distance::direction::Bearing;
 use distance::direction::Direction;
 use distance::mho::ZoneBits;
 use plane::Phases;
@@ -34,6 +35,8 @@ pub struct Findings {
     pub asserting: u8,
     // the loops that assert at the second reach, in the same order; 0 where it is off (document 02, CR 2)
     pub overreaching: u8,
+    // whether 3I2 reaches its pickup
+    pub unbalanced: bool,
     // which way the fault lies
     pub direction: Direction,
     // what is compared in each phase
@@ -64,10 +67,10 @@ fn zones(s: &[u8], v: Phases, i: Phases) -> ZoneBits
     seen
 }
 
-// The direction of a fault, from the same.
-fn direction(s: &[u8], v: Phases, i: Phases) -> Direction
+// Whether 3I2 reaches its pickup, and the direction of a fault, from the same.
+fn bearing(s: &[u8], v: Phases, i: Phases) -> Bearing
     requires { ⌜ Ranges (now s) × AllInside phasorSize v × AllInside phasorSize i ⌝ }
-    ensures { λ r. ⌜ r ≡ directionAt (now (s .entry)) v i ⌝ }
+    ensures { λ r. ⌜ (r .unbalanced ≡ unbalancedAt (now (s .entry)) i) × (r .direction ≡ directionAt (now (s .entry)) v i) ⌝ }
 {
     let v2 = distance::sequence::negative_sequence(v);
     let i2 = distance::sequence::negative_sequence(i);
@@ -88,21 +91,34 @@ fn findings_in(s: &[u8], window: &[i16]) -> Findings
     let zones = zones(s, v, i);
     let asserting = zones.first;
     let overreaching = zones.second;
-    let direction = direction(s, v, i);
+    let bearing = bearing(s, v, i);
+    let unbalanced = bearing.unbalanced;
+    let direction = bearing.direction;
     Findings {
         operating,
         asserting,
         overreaching,
+        unbalanced,
         direction,
         comparisons,
     }
 }
 
+// A balanced fault, which has no direction: 3I2 is below its pickup, and AB, BC and CA all assert (document 02, CR 4).
+fn balanced_fault(asserting: u8, unbalanced: bool) -> bool
+    ensures { λ r. ⌜ r ≡ balancedFault asserting unbalanced ⌝ }
+{
+    !unbalanced && asserting / 8 % 8 == 7
+}
+
 // The trip rule.
-fn trip(operating: u8, asserting: u8, direction: Direction) -> u8
-    ensures { λ r. ⌜ r ≡ trip operating asserting direction ⌝ }
+fn trip(operating: u8, asserting: u8, direction: Direction, unbalanced: bool) -> u8
+    ensures { λ r. ⌜ r ≡ trip operating asserting direction unbalanced ⌝ }
 {
     if operating != 0 {
+        return TRIP;
+    }
+    if balanced_fault(asserting, unbalanced) {
         return TRIP;
     }
     match direction {
@@ -157,7 +173,7 @@ fn bytes(f: Findings) -> [u8; LENGTH]
     let direction = f.direction;
     let comparisons = f.comparisons;
     let r = front(
-        trip(f.operating, f.asserting, direction),
+        trip(f.operating, f.asserting, direction, f.unbalanced),
         f.operating,
         f.asserting,
         distance::direction::number(direction),

@@ -1,5 +1,5 @@
 -- The statements of specs/Laws.antt, proved; and that each rounding is document 01's.
-use mathlib.Core.Path.{_≡_, refl, sym}
+use mathlib.Core.Path.{_≡_, refl, sym, _∙_}
 use mathlib.Core.Bool.{Bool, true, false, cond, true≢false}
 use mathlib.Core.List.{List, [], _∷_}
 use Prim.Native.Nat.{ℕ}
@@ -10,8 +10,8 @@ use Rattle.whole.specs.Exactly.{Exactly}
 use Rattle.whole.specs.Round.{Rounded}
 use Rattle.whole.proofs.Certificate.{quo, le!, false!, g-le, g-lt, g-num, _⊞_, _⊠_}
 use Rattle.whole.proofs.Order.{≤-trans}
-use Rattle.whole.proofs.Machine.{lt-true, le-true, true-lt, false-lt, true-le}
-use Rattle.settings.specs.Fields.{forwardLimit, reverseLimit}
+use Rattle.whole.proofs.Machine.{lt-true, lt-false, le-true, true-lt, false-lt, true-le}
+use Rattle.settings.specs.Fields.{forwardLimit, reverseLimit, negativeSequencePickup}
 use Rattle.plane.specs.declared.Phasor.{Phasor}
 use Rattle.plane.specs.declared.Phases.{Phases}
 use Rattle.plane.specs.Plane.{zero, plus, times, scaled, squared}
@@ -22,7 +22,7 @@ use Rattle.distance.specs.Sequence.{a, a², scale, sequence, turned}
 use Rattle.distance.specs.Constants.{angle}
 use Rattle.distance.specs.Direction.{reachesPickup, torque, sideOf, directionOf, directionNumber}
 use Rattle.distance.specs.Mho.{mho, asserts, residual, kProduct, groundLoop, phaseLoop, loopsOf, loopBits}
-use Rattle.distance.specs.Laws.{MhoRule, LargerReach, NoPolarising, NoPositive, NeverBoth, ForwardRule, ReverseRule}
+use Rattle.distance.specs.Laws.{MhoRule, LargerReach, NoPolarising, NoPositive, PickupReached, BelowPickup, NoneBelowPickup, NeverBoth, ForwardRule, ReverseRule}
 
 -- ---- the mho rule
 
@@ -80,6 +80,31 @@ never-both s v2 i2 h f g =
     let q = squared i2 in
     let q-least = squared-nonneg i2 in
     false! (zf ∷ zr ∷ t ∷ q ∷ []) (g-lt f ⊞ g-lt g ⊞ g-lt h ⊠ q-least ⊞ q-least ⊞ g-num 1) (search quo depth 40) tt
+
+-- x <= y fails exactly where y < x
+le-fails : (x y : ℤ) → Exactly (leZ x y ≡ false) (y <ℤ x)
+le-fails x y = (by-order (ltZ y x) refl, by-test (leZ x y) refl)
+  where
+    by-order : (b : Bool) → ltZ y x ≡ b → leZ x y ≡ false → y <ℤ x
+    by-order true t e = lt-true t
+    by-order false t e = absurd (true≢false (sym (true-le {x = x} {y = y} (lt-false t)) ∙ e))
+
+    by-test : (b : Bool) → leZ x y ≡ b → y <ℤ x → b ≡ false
+    by-test true t h = let least : x ≤ℤ y = le-true t in absurd (false! (x ∷ y ∷ []) (g-le least ⊞ g-lt h) (search quo depth 40) tt)
+    by-test false t h = refl
+
+-- what the test of the pickup tells
+pub pickup-reached : (s : List ℕ) (i2 : Phasor) → Exactly (reachesPickup s i2 ≡ true) (PickupReached s i2)
+unfolding reachesPickup
+pickup-reached s i2 = (le-true, true-le)
+
+pub below-pickup : (s : List ℕ) (i2 : Phasor) → Exactly (reachesPickup s i2 ≡ false) (BelowPickup s i2)
+unfolding reachesPickup
+below-pickup s i2 = le-fails (pos (negativeSequencePickup s) *ℤ pos (negativeSequencePickup s)) (squared i2)
+
+pub none-below-pickup : NoneBelowPickup
+unfolding directionOf
+none-below-pickup s v2 i2 below = rw (below-pickup s i2 .1 below)
 
 -- the direction by its three tests
 abbrev by-tests : Bool → Bool → Bool → Direction

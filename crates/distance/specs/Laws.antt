@@ -10,7 +10,7 @@ use Rattle.settings.specs.Fields.{forwardLimit, reverseLimit, negativeSequenceP
 use Rattle.plane.specs.declared.Phasor.{Phasor}
 use Rattle.plane.specs.declared.Phases.{Phases}
 use Rattle.plane.specs.Plane as plane
-use Rattle.distance.specs.declared.direction.Direction.the-variants.{Forward, Reverse}
+use Rattle.distance.specs.declared.direction.Direction.the-variants.{None, Forward, Reverse}
 use Rattle.distance.specs.Sequence.{positiveSequence}
 use Rattle.distance.specs.Constants.{angle}
 use Rattle.distance.specs.Direction.{torque, directionOf}
@@ -45,6 +45,14 @@ NoPositive = (z k : Phasor) (r : ℤ) (v i : Phases) → positiveSequence v ≡ 
 -- 3I2 reaches its pickup
 abbrev pub PickupReached : List ℕ → Phasor → Type 0
 PickupReached s i2 = (pos (negativeSequencePickup s) *ℤ pos (negativeSequencePickup s)) ≤ℤ plane.squared i2
+
+-- and does not: |3I2|² is below the square of its pickup
+abbrev pub BelowPickup : List ℕ → Phasor → Type 0
+BelowPickup s i2 = plane.squared i2 <ℤ (pos (negativeSequencePickup s) *ℤ pos (negativeSequencePickup s))
+
+-- "Direction is none if |3I2|² is below the square of its pickup", whatever 3V2 is
+abbrev pub NoneBelowPickup : Type 0
+NoneBelowPickup = (s : List ℕ) (v2 i2 : Phasor) → BelowPickup s i2 → directionOf s v2 i2 ≡ None
 
 -- T < zf |3I2|²
 abbrev pub BelowForward : List ℕ → Phasor → Phasor → Type 0

@@ -16,6 +16,14 @@ pub enum Direction {
     Reverse,
 }
 
+// What the negative sequence tells of a fault.
+pub struct Bearing {
+    // whether 3I2 reaches its pickup
+    pub unbalanced: bool,
+    // which way the fault lies
+    pub direction: Direction,
+}
+
 // The number of a direction in the decision record.
 pub fn number(d: Direction) -> u8
     ensures { λ r. ⌜ r ≡ directionNumber d ⌝ }
@@ -28,7 +36,7 @@ pub fn number(d: Direction) -> u8
 }
 
 // Whether 3I2 reaches its pickup.
-pub fn reaches_pickup(s: &[u8], i2: Phasor) -> bool
+fn reaches_pickup(s: &[u8], i2: Phasor) -> bool
     requires { ⌜ Ranges (now s) × Inside sequenceSize i2 ⌝ }
     ensures { λ r. ⌜ r ≡ reachesPickup (now (s .entry)) i2 ⌝ }
 {
@@ -58,17 +66,24 @@ fn side(zf: i64, zr: i64, t: i64, square: i64) -> Direction
     }
 }
 
-// The direction of a fault by a good settings record, from 3V2 and 3I2.
-pub fn of_fault(s: &[u8], v2: Phasor, i2: Phasor) -> Direction
+// Both by a good settings record, from 3V2 and 3I2. Only where 3I2 reaches its pickup has a fault a direction.
+pub fn of_fault(s: &[u8], v2: Phasor, i2: Phasor) -> Bearing
     requires { ⌜ Ranges (now s) × Inside sequenceSize v2 × Inside sequenceSize i2 ⌝ }
-    ensures { λ r. ⌜ r ≡ directionOf (now (s .entry)) v2 i2 ⌝ }
+    ensures { λ r. ⌜ (r .unbalanced ≡ reachesPickup (now (s .entry)) i2) × (r .direction ≡ directionOf (now (s .entry)) v2 i2) ⌝ }
 {
     if reaches_pickup(s, i2) {
         let zf = settings::fields::forward_limit(s);
         let zr = settings::fields::reverse_limit(s);
         let t = torque(constants::angle(s), v2, i2);
-        side(zf, zr, t, plane::square(i2))
+        let direction = side(zf, zr, t, plane::square(i2));
+        Bearing {
+            unbalanced: true,
+            direction,
+        }
     } else {
-        Direction::None
+        Bearing {
+            unbalanced: false,
+            direction: Direction::None,
+        }
     }
 }

@@ -5,7 +5,8 @@ import random
 import struct
 from typing import Collection, Iterator, NamedTuple
 
-from model.measuring import COSINES, MISSING, Line, Phasor, channels
+from model.measuring import (COSINES, MISSING, Line, Phasor, channels, minus,
+                             phasor)
 from model.settings import FIELDS, OFF, SPARE, SQUARES, first_fault
 
 ENDS = range(2, 6 + 1)
@@ -115,6 +116,13 @@ def wave(value: complex) -> list[int]:
     turns = [2 * math.pi * n / 16 for n in range(16)]
     return [round(value.real * math.cos(turn) - value.imag * math.sin(turn))
             for turn in turns]
+
+
+def exact_wave(value: tuple[int, int]) -> list[int]:
+    """A steady wave with exactly this phasor: two samples make up for what
+    the rounding leaves."""
+    samples = wave(complex(*value))
+    return added(samples, exact(minus(Phasor(*value), phasor(samples))))
 
 
 def largest(shift: int) -> list[int]:

@@ -7,7 +7,8 @@ import random
 from itertools import chain, cycle
 from typing import Iterable, Iterator, NamedTuple
 
-from cases import currents, hand_checks, roots, second_zone, trying, windows
+from cases import (balanced, currents, hand_checks, roots, second_zone, trying,
+                   windows)
 from cases.building import HIGH, LINE, LOW, any_line, record
 from cases.records import put
 from model.differential import slope
@@ -66,6 +67,7 @@ def once(some: Iterable[Chosen]) -> Iterator[Chosen]:
 
 
 def one_by_one() -> Iterator[Chosen]:
+    yield from (Chosen(*found) for found in balanced.fixed())
     for label, on, numbers in chain(hand_checks.of_channel(), roots.fixed()):
         yield Chosen(label, record(on), numbers)
     for found in windows.fixed():
@@ -93,9 +95,13 @@ def at_an_edge(rng: random.Random, chosen: Chosen) -> Chosen:
 
 
 def endless(rng: random.Random) -> Iterator[Chosen]:
+    """One in nine is a balanced fault."""
     of_lines, of_currents = windows.endless(rng), currents.endless(rng)
+    of_balanced = balanced.endless(rng)
     while True:
         yield Chosen(*next(of_lines))
         yield at_an_edge(rng, Chosen(*next(of_lines)))
         yield rng.choice([*tried(next(of_currents))])
         yield rng.choice([*tried(next(of_currents), any_line(rng))])
+        if rng.random() < 0.5:
+            yield Chosen(*next(of_balanced))

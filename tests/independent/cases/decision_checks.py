@@ -1,5 +1,6 @@
 """Document 01's hand checks as windows, with what a decision on each should
-show, and one of document 02's second zone, which does not trip.
+show, one of document 02's second zone, which does not trip, and one of its
+balanced faults.
 
 checks() puts them to model/decision.py; windows() gives each window once, for
 an archive.
@@ -101,12 +102,32 @@ def does_not_trip() -> Iterator[Check]:
             'second zone': second})
 
 
+def balanced() -> Iterator[Check]:
+    """A balanced fault at 600 thousandths of the replica: in each phase V is
+    0.6j I, so that all six loops are equal at 600. 3I2 = (0,-2), 3V2 = (1,0)
+    and T = 2000, which is 500 |3I2|²."""
+    volts = [(600, 0), (-300, -519), (-300, 519)]
+    amps = [(0, -1000), (-865, 500), (865, 500)]
+    out = [(-re, -im) for re, im in amps]
+    numbers = window([exact(value) for value in (*volts, *amps, *out)], 2)
+    for r, r2, pickup, zr, trip, first, towards, second in (
+            (600, 0, 3, 300, 1, 63, 0, 0), (599, 0, 3, 300, 0, 0, 0, 0),
+            (599, 600, 3, 300, 0, 0, 0, 63), (600, 0, 2, 500, 0, 63, 0, 0),
+            (600, 0, 2, 499, 0, 63, 2, 0)):
+        line = hand_checks.LINE._replace(r=r, r2=r2, pickup=pickup, zr=zr)
+        yield Check(f'balanced, r={r}, r2={r2}, pickup {pickup}, zr={zr}',
+                    record(line), numbers, {
+                        'trip': trip, 'phases': 0, 'loops': first,
+                        'direction': towards, 'second zone': second})
+
+
 def all_of_them() -> Iterator[Check]:
     yield from p1_to_p6()
     yield from p7()
     yield from p8_to_p11()
     yield from p12_to_p14()
     yield from does_not_trip()
+    yield from balanced()
 
 
 def checks():

@@ -1,5 +1,5 @@
-"""The calls of feed that are compared, in their histories: the ones that CR 1,
-CR 2 and CR 3 of document 02 suggest, one by one.
+"""The calls of feed that are compared, in their histories: the ones that CR 1
+to CR 4 of document 02 suggest, one by one.
 
 Most are long runs through one relay. A state that no run would leave is lent
 as it is.
@@ -7,7 +7,7 @@ as it is.
 from itertools import chain, cycle, product
 from typing import Iterator
 
-from cases import decision_checks, records, roots, second_reach
+from cases import balanced, decision_checks, records, roots, second_reach
 from cases.building import (ENDS, HIGH, LARGEST, LINE, as_data, largest,
                             record, window)
 from cases.decide_cases import ENOUGH, SMALL, repeated, strong
@@ -29,16 +29,25 @@ def room(size: int) -> bytes:
     return repeated(b'\x5a', size)
 
 
-# ---- Roots -----------------------------------------------------------------
+# ---- Roots, and balanced faults --------------------------------------------
+
+def held_and_fed(label: str, entry: bytes, numbers: list[int]) -> History:
+    """A window as a steady wave that the relay holds, and the frame with which
+    it is this window again."""
+    given = frames(numbers, slope(entry).ends)
+    held = holding(FRAMES, steady(given, FRAMES, FRAMES - 1))
+    return History(records.relay(entry, NOTHING, held), feeds(given[-1:]),
+                   label)
+
 
 def of_roots() -> Iterator[History]:
-    """Each window of roots.py as a steady wave that the relay holds, and the
-    frame with which it is this window again."""
     for label, line, numbers in roots.fixed():
-        given = frames(numbers, line.ends)
-        held = holding(FRAMES, steady(given, FRAMES, FRAMES - 1))
-        yield History(records.relay(record(line), NOTHING, held),
-                      feeds(given[-1:]), label)
+        yield held_and_fed(label, record(line), numbers)
+
+
+def of_balanced() -> Iterator[History]:
+    for found in balanced.fixed():
+        yield held_and_fed(*found)
 
 
 # ---- Faults that come frame by frame ---------------------------------------
@@ -296,7 +305,7 @@ def counts() -> Iterator[History]:
 
 
 def fixed() -> Iterator[History]:
-    return chain(of_roots(), faults_coming(), windows_fed(), extremes(),
-                 second_zone(), missing_passing(), several_missing(),
-                 missing_at_first(), calls_between(), refused_between(),
-                 order(), lengths(), stored(), counts())
+    return chain(of_roots(), of_balanced(), faults_coming(), windows_fed(),
+                 extremes(), second_zone(), missing_passing(),
+                 several_missing(), missing_at_first(), calls_between(),
+                 refused_between(), order(), lengths(), stored(), counts())

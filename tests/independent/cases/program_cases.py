@@ -220,6 +220,17 @@ def second_zone() -> Case:
                 decided(1, 1, 0, 1)))
 
 
+def balanced() -> Case:
+    """A fault on all three phases at 600 thousandths of the replica: in front
+    it trips, although there is no direction; behind it does not."""
+    volts = [(600, 0), (-300, -520), (-300, 520)]
+    amps = [(0, -1000), (-867, 500), (867, 500)]
+    return Case('balanced', entered(
+        through(volts, amps), through(volts, opposite(amps)),
+        fed(volts, amps)), printed(
+            decided(1, 0, 63, 0), NOTHING, decided(1, 7, 63, 0)))
+
+
 # The paper mill: 100 into the line at end 1, 40 out of it at end 2. By slope,
 # whether it trips.
 OUTFEED = window([*[QUIET] * 3, exact((100, 0)), QUIET, QUIET,
@@ -313,7 +324,7 @@ def cuts() -> Iterator[Case]:
 # ---- All of them -----------------------------------------------------------
 
 ONE_BY_ONE = [*entries(), *missing(), *other_lengths(), *of_loops(),
-              *directions(), *phases(), *trips(), second_zone(),
+              *directions(), *phases(), *trips(), second_zone(), balanced(),
               *paper_mill(), *more_ends(), many_windows(), extremes()]
 CASES = [*ONE_BY_ONE, *cuts()]
 INPUTS = {case.name: case.data for case in CASES}

@@ -2,7 +2,7 @@
 from typing import NamedTuple
 
 from cases.steps import Step
-from model import decision, feeding, settings
+from model import decision, differential, feeding, settings
 
 BEFORE, BEHIND = bytes(range(101, 118)), bytes(range(201, 218))  # odd in length, so that slices also begin at odd addresses
 
@@ -29,6 +29,13 @@ def result(state, step):
     if step.call == 'feed':
         return with_decision(*feeding.feed(state, step.samples, len(step.other)), step.other)
     return settings.CALLS[step.call](state, step.other)
+
+
+def window(made):
+    """The window that a decide or a feed went by: the one that was lent, or the newest 16 frames."""
+    if made.step.call == 'decide':
+        return made.step.samples
+    return feeding.newest(made.wanted.state, differential.slope(made.state[settings.IN_FORCE]).ends)
 
 
 # In the driver's form

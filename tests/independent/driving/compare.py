@@ -23,8 +23,8 @@ from driving.newest import Newest  # noqa: E402
 from driving.tally import Tally  # noqa: E402
 
 BATCH = 10000
-CALLS = 90320   # if nothing is said
-FEEDS = 60220   # the same
+CALLS = 95970   # if nothing is said
+FEEDS = 63030   # the same
 MS = (1, 1000)  # for demand 3
 
 

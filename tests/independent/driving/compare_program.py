@@ -136,6 +136,8 @@ def shown(printed: bytes) -> Iterator[str]:
         if found:
             number, trip, diff, mho, towards = map(int, found.groups())
             yield from (f'trip {trip}', f'diff {diff}', f'dir {towards}')
+            if trip and not diff and not towards:
+                yield 'trip by a balanced fault'
             yield from (f'mho {name}: {mho & bit > 0}'
                         for name, bit in BITS.items())
             yield f'number of {len(str(number))} digits'
@@ -153,7 +155,8 @@ def wanted() -> list[str]:
         *(f'settings refused 8 at {place}' for place in range(RECORD)),
         'window refused 2 at 0',
         *(f'window refused 4 at {place}' for place in range(length(ENDS[-1]))),
-        'trip 0', 'trip 1', *(f'diff {bits}' for bits in range(8)),
+        'trip 0', 'trip 1', 'trip by a balanced fault',
+        *(f'diff {bits}' for bits in range(8)),
         *(f'mho {name}: {either}' for name in BITS
           for either in (False, True)),
         'dir 0', 'dir 1', 'dir 2',

@@ -11,11 +11,10 @@ from math import isqrt
 from typing import Iterator
 
 from cases.building import ENDS
-from driving.calls import Made
+from driving.calls import Made, window
 from driving.seen import all_of
 from driving.sides import LARGEST, sizes
 from model.differential import Phase, by_phase, slope
-from model.feeding import newest
 from model.measuring import numbers, squared
 from model.settings import IN_FORCE
 
@@ -110,9 +109,7 @@ def of_phase(phase: Phase) -> Iterator[str]:
 
 def shown(made: Made) -> Iterator[str]:
     ends = slope(made.state[IN_FORCE]).ends
-    window = (newest(made.wanted.state, ends) if made.step.call == 'feed'
-              else made.step.samples)
-    for phase in by_phase(numbers(window), ends):
+    for phase in by_phase(numbers(window(made)), ends):
         yield from (f'{made.step.call}: {what}' for what in of_phase(phase))
 
 

@@ -1,17 +1,19 @@
 """What the compared calls gave, and what all of them together should have given: every answer that documents 01 and 02 allow, every
 bit of a decision both ways, every side of a rule that a decision can show, every edge of the second reach by every call, and roots of
-every size and kind by decide and by feed. What feeds should show beside is in fed_tally.py."""
+every size and kind and all sides of a balanced fault by decide and by feed. What feeds should show beside is in fed_tally.py."""
 from collections import Counter
 from itertools import product
 
 from cases.building import ENDS
-from driving import decision_shown, reach_seen, roots_seen
+from driving import balanced_seen, decision_shown, reach_seen, roots_seen
 from model.measuring import BITS, channels, length, line
 from model.settings import ANSWERS, RECORD
 
 # The numbers beside 4, each at place 0. 4 has the places of a window.
 AT_0 = {'decide': (0, 1, 2, 3, 17), 'feed': (0, 1, 3, 9, 10, 17)}
 PHASES = {'a': 1, 'b': 2, 'c': 4}
+# What decide and feed should each show.
+OF_BOTH = {'roots by size and kind': roots_seen, 'sides of a balanced fault': balanced_seen}
 
 
 def of_missing(call, ends, place):
@@ -66,16 +68,18 @@ class Tally:
         self.looked = 0
         # The edges of the second reach that no call has shown yet.
         self.reaches = {call: set(reach_seen.wanted(call)) for call in (*ANSWERS, *AT_0)}
-        # The roots that no decide has shown yet, and those that no feed has.
-        self.roots = {call: set(roots_seen.wanted(call)) for call in AT_0}
+        # What no decide has shown yet, and what no feed has.
+        self.of_both = {part: {call: set(part.wanted(call)) for call in AT_0} for part in OF_BOTH.values()}
 
     def add(self, made):
         self.calls[made.step.call] += 1
         self.answers[answer(made)] += 1
         if self.reaches[made.step.call]:
             self.reaches[made.step.call].difference_update(reach_seen.shown(made))
-        if self.roots.get(made.step.call) and made.wanted.number == 0:
-            self.roots[made.step.call].difference_update(roots_seen.shown(made))
+        if made.step.call in AT_0 and made.wanted.number == 0:
+            for part, by_call in self.of_both.items():
+                if by_call[made.step.call]:
+                    by_call[made.step.call].difference_update(part.shown(made))
         if made.step.call != 'decide':
             return
         if made.wanted.number == 0:
@@ -102,9 +106,10 @@ class Tally:
         print(f'sides of the rules: {sides - len(unseen)} of {sides}, seen in the first {self.looked} decides')
         print('edges of the second reach: ' + ', '.join(
             f'{call} {len([*reach_seen.wanted(call)]) - len(unseen)}' for call, unseen in self.reaches.items()))
-        print('roots by size and kind: ' + ', '.join(
-            f'{call} {len([*roots_seen.wanted(call)]) - len(unseen)}' for call, unseen in self.roots.items()))
-        unseen.update(*self.reaches.values(), *self.roots.values())
+        for title, part in OF_BOTH.items():
+            print(f'{title}: ' + ', '.join(
+                f'{call} {len([*part.wanted(call)]) - len(unseen)}' for call, unseen in self.of_both[part].items()))
+        unseen.update(*self.reaches.values(), *(left for by_call in self.of_both.values() for left in by_call.values()))
         yield from (f'{what}: never seen' for what in [*wanted, *sorted(unseen)] if what in unseen or not found[what])
         yield from (f'{what} is no answer of documents 01 and 02' for what in sorted(set(self.answers) - set(allowed)))
         yield from (f'{what} is nothing that a decision can say' for what in sorted(set(self.bits) - set(all_bits())))

@@ -1,5 +1,5 @@
 """The rules of document 01 for decide: what it refuses, in its order, and the
-decision record, with byte 4 of document 02, CR 2.
+decision record, with byte 4 and the trip of document 02, CR 2 and CR 4.
 
 Comments in quotes are the document's own sentences.
 """
@@ -8,9 +8,9 @@ import struct
 from typing import NamedTuple, Optional
 
 from model.differential import by_phase, phases_operating
-from model.measuring import (FORWARD, by_loop, channel, direction,
-                             first_missing, length, line, negative, numbers,
-                             phasor, zone_bits)
+from model.measuring import (BITS, FORWARD, PHASE_LOOPS, by_loop, channel,
+                             direction, first_missing, length, line, negative,
+                             numbers, phasor, reaches_pickup, zone_bits)
 from model.settings import IN_FORCE, STATE, absent
 
 # ---- Decision record -------------------------------------------------------
@@ -23,10 +23,22 @@ FORM = struct.Struct('>5B3x3I3I')
 assert FORM.size == DECISION
 
 
-def trip(phases: int, loops: int, towards: int) -> int:
+def balanced(loops: int, reaches: bool) -> bool:
+    # Document 02, CR 4: "if |3I2|² is below its pickup squared and AB, BC and
+    # CA all assert in the first zone, that also sets trip". "If direction is
+    # none because T lies between the limits, nothing changes."
+    return not reaches and all(loops & BITS[name] != 0
+                               for name in PHASE_LOOPS)
+
+
+def trip(phases: int, loops: int, towards: int, reaches: bool) -> int:
+    """By byte 1, the loops of the first zone, the direction, and whether 3I2
+    reaches its pickup."""
     # "trip: 1 if any phase operates, or direction is forward and any loop
-    # asserts; else 0". Of the second zone CR 2 says: "It does not trip."
-    return int(phases != 0 or (towards == FORWARD and loops != 0))
+    # asserts; else 0", with what CR 4 adds. Of the second zone CR 2 says: "It
+    # does not trip."
+    return int(phases != 0 or (towards == FORWARD and loops != 0)
+               or balanced(loops, reaches))
 
 
 def decision_record(record: bytes, samples: list[int]) -> bytes:
@@ -38,9 +50,13 @@ def decision_record(record: bytes, samples: list[int]) -> bytes:
     i = [phase.phasors[0] for phase in phases]
     operating = phases_operating(record, phases)
     first, second = zone_bits(given, by_loop(given, v, i))
-    towards = direction(given, negative(*v), negative(*i))
-    return FORM.pack(trip(operating, first, towards), operating, first,
-                     towards, second, *(phase.U for phase in phases),
+    v2, i2 = negative(*v), negative(*i)
+    # CR 4 leaves it as it is: "Direction still reads 0."
+    towards = direction(given, v2, i2)
+    tripping = trip(operating, first, towards,
+                    reaches_pickup(i2, given.pickup))
+    return FORM.pack(tripping, operating, first, towards, second,
+                     *(phase.U for phase in phases),
                      *(phase.differential for phase in phases))
 
 

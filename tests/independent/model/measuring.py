@@ -250,6 +250,7 @@ class Loop(NamedTuple):
 
 # "loops AG 1, BG 2, CG 4, AB 8, BC 16, CA 32"
 BITS = {'AG': 1, 'BG': 2, 'CG': 4, 'AB': 8, 'BC': 16, 'CA': 32}
+GROUND_LOOPS, PHASE_LOOPS = ('AG', 'BG', 'CG'), ('AB', 'BC', 'CA')
 
 
 def k_product(line: Line, i: list[Phasor]) -> Phasor:

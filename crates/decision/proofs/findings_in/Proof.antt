@@ -11,7 +11,7 @@ use Rattle.phasors.specs.Grid.{voltagesOf, localCurrents, current}
 use Rattle.phasors.proofs.Totals.{filled-local}
 use Rattle.differential.specs.Differential.{comparisons, operatingBits}
 use Rattle.differential.proofs.Filled.{filled-comparisons}
-use Rattle.decision.specs.Decision.{rateOf, loopsAt, assertingBits, overreachingBits, directionAt, findings}
+use Rattle.decision.specs.Decision.{rateOf, loopsAt, assertingBits, overreachingBits, unbalancedAt, directionAt, findings}
 use Rattle.decision.proofs.findings_in.Statement.{statement}
 use Rattle.decision.proofs.findings_in.Tie as tie
 
@@ -47,8 +47,11 @@ returns c =
     let loops = ap₂ (loopsAt s) voltages currents in
     let near = z .zones .ensures .0 ∙ ap (assertingBits s) loops in
     let further = z .zones .ensures .1 ∙ ap (overreachingBits s) loops in
-    let direction = c .direction .ensures ∙ ap₂ (directionAt s) voltages currents in
-    (λ k. record { operating = phases k; asserting = near k; overreaching = further k; direction = direction k; comparisons = compared k }, o .of-phases .ensures .1)
+    let unbalanced = c .bearing .ensures .0 ∙ ap (unbalancedAt s) currents in
+    let direction = c .bearing .ensures .1 ∙ ap₂ (directionAt s) voltages currents in (
+      λ k. record { operating = phases k; asserting = near k; overreaching = further k; unbalanced = unbalanced k; direction = direction k; comparisons = compared k },
+      o .of-phases .ensures .1,
+    )
 
 pub findings-in-spec : {M : Type 1} → statement M
 findings-in-spec =

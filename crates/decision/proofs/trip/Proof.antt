@@ -1,6 +1,6 @@
 -- `decision::trip` meets its contract: one law for each way out.
 use borrow.Author.Needs.{needs}
-use Rattle.decision.proofs.Cases.{by-phase, by-loop, no-loop, not-directed, reversed}
+use Rattle.decision.proofs.Cases.{by-phase, by-balance, by-loop, no-loop, not-directed, reversed}
 use Rattle.decision.proofs.trip.Statement.{statement}
 use Rattle.decision.proofs.trip.Tie as tie
 
@@ -8,6 +8,6 @@ pub trip-spec : {M : Type 1} → statement M
 trip-spec =
     tie.close
     (tie.spec
-    (λ c. search (needs, by-phase)) (λ c. search needs) (λ c. search needs) (λ c. search needs)
+    (λ c. search (needs, by-phase)) (λ c κs. search) (λ c. search (needs, by-balance)) (λ c. search needs) (λ c. search needs) (λ c. search needs)
     (λ c. search (needs, by-loop)) (λ c. search (needs, no-loop)) (λ c. search (needs, not-directed))
     (λ c. search (needs, reversed)))

@@ -48,11 +48,12 @@ returns : tie.Need-returns
 unfolding directionOf
 returns c =
     let then = c .before .before .before .before .before .before in
-    rw (sym (then .before .reaches-pickup .ensures) ∙ then .if1 .taken) (sides c)
+    let reached = sym (then .before .reaches-pickup .ensures) ∙ then .if1 .taken in
+    (sym reached, rw reached (sides c))
 
 returns-2 : tie.Need-returns-2
 unfolding directionOf
-returns-2 c = rw (sym (c .before .reaches-pickup .ensures) ∙ c .if1 .left)
+returns-2 c = let not-reached = sym (c .before .reaches-pickup .ensures) ∙ c .if1 .left in (sym not-reached, rw not-reached)
 
 pub of-fault-spec : {M : Type 1} → statement M
 of-fault-spec =

@@ -1,0 +1,121 @@
+-- Balanced faults: all but the bytes themselves is read off what demand 2 tells.
+use Prim.Native.Nat.{ℕ, zero, suc, _≤_, _<_}
+use mathlib.Core.Path.{_≡_, refl, sym, ap, subst, _∙_}
+use mathlib.Core.Logic.{_⊎_, inl, inr, ⊎-elim}
+use mathlib.Core.List.{List, _∷_, _++_}
+use mathlib.Core.Bool.{Bool, true, false, cond, _&&_, _||_}
+use native.Mathlib.Omega.{arith}
+use lib.Dec.{eqb}
+use lib.IntN.{ℤ, pos}
+use lib.ListN.{drop, List·getD-append}
+use Rattle.whole.specs.Bits.{bits}
+use Rattle.settings.specs.Fields.{reach, secondReach}
+use Rattle.distance.specs.Constants.{replica, compensation}
+use Rattle.distance.specs.Direction.{reachesPickup}
+use Rattle.distance.specs.Mho.{loopBits}
+use Rattle.distance.proofs.Laws.{no-positive}
+use Rattle.decision.specs.declared.Findings.{Findings}
+use Rattle.decision.specs.Decision.{voltages, currentsOfEnd1, findings, any, isForward, balancedFault, decisionLength, decisionBytes}
+use Rattle.claims.specs.Bits.{BitsTell, AnyOf, AllOf}
+use Rattle.claims.specs.Decisions.{Decision}
+use Rattle.claims.specs.Demand2.{sixLoops, phaseLoopFacts, loopFacts, TripsBalanced, byte}
+use Rattle.claims.specs.Balanced.{BalancedFault, BetweenLimits, NoVoltage, bytesBefore, before, ElseAsBefore}
+use Rattle.claims.proofs.Bits.{none-told}
+use Rattle.claims.proofs.Decisions.{front}
+use Rattle.claims.proofs.Demand2.{flag, i2, assert, trips-balanced, not-reached, reads-none, demand-2}
+
+-- ---- the new rule
+
+pub balanced-fault : BalancedFault
+balanced-fault s w out d c below =
+    let told = demand-2 s w out d c .0 in (
+      reads-none s w d told below,
+      (
+        λ t. ⊎-elim inl (λ more. ⊎-elim (λ ahead. absurd (not-reached s w below (ahead .0 .0))) (λ balanced. inr (balanced .1)) more) (told .trip .0 t),
+        λ h. told .trip .1 (⊎-elim inl (λ all. inr (inr (below, all))) h),
+      ),
+    )
+
+pub between-limits : BetweenLimits
+between-limits s w out d c reached e =
+    let told = demand-2 s w out d c .0 in
+    let none = told .none .0 e in (
+      λ t. ⊎-elim (λ any. any) (λ more. ⊎-elim (λ ahead. absurd (none .0 (ahead .0))) (λ balanced. absurd (not-reached s w (balanced .0) reached)) more) (told .trip .0 t),
+      λ any. told .trip .1 (inl any),
+    )
+
+-- ---- no voltage
+
+-- one of the three is one of the six
+among : (s : List ℕ) (w : List ℤ) (r : ℕ) → AllOf (phaseLoopFacts s w r) → AnyOf (loopFacts s w r)
+among s w r all = inr (inr (inr (inl (all .0))))
+
+-- byte 4 of no loops, whether the second zone is off or not
+no-loops : (off : Bool) (n : ℕ) → n ≡ 0 → cond off 0 n ≡ 0
+no-loops true n e = refl
+no-loops false n e = e
+
+pub no-voltage : NoVoltage
+unfolding findings
+no-voltage s w out d c dead =
+    let told = demand-2 s w out d c .0 in
+    let quiet : (r : ℕ) → loopBits (replica s) (pos r) (sixLoops s w) ≡ 0 = λ r. no-positive (replica s) (compensation s) (pos r) (voltages s w) (currentsOfEnd1 s w) dead in
+    let first : byte d 2 ≡ 0 = ap (λ x. byte x 2) (front c) ∙ quiet (reach s) in
+    let none : AnyOf (loopFacts s w (reach s)) → ⊥ = none-told 0 (loopFacts s w (reach s)) (subst (λ n. BitsTell n 0 (loopFacts s w (reach s))) first (told .loop-bits)) in (
+      first,
+      ap (λ x. byte x 4) (front c) ∙ no-loops (eqb (secondReach s) 0) (loopBits (replica s) (pos (secondReach s)) (sixLoops s w)) (quiet (secondReach s)),
+      (
+        λ t. ⊎-elim (λ any. any) (λ more. ⊎-elim (λ ahead. absurd (none (ahead .1))) (λ balanced. absurd (none (among s w (reach s) (balanced .1)))) more) (told .trip .0 t),
+        λ any. told .trip .1 (inl any),
+      ),
+    )
+
+-- ---- as before
+
+-- a decision's bytes are those of what was found
+byte-is : (s : List ℕ) (w : List ℤ) (out d : List ℕ) → Decision s w out d → (k : ℕ) → k < 32 → byte d k ≡ byte (decisionBytes (findings s w)) k
+byte-is s w out d c k l = ap (λ x. byte x k) (front c) ∙ List·getD-append (decisionBytes (findings s w)) (drop decisionLength out) 0 k l
+
+but-0 : (f : Findings) (k : ℕ) → 1 ≤ k → byte (decisionBytes f) k ≡ byte (bytesBefore f) k
+but-0 f zero l = absurd (omega arith)
+but-0 f (suc k) l = refl
+
+-- 1 or 0 for two reasons, and for a third
+
+no-third : (x y z : Bool) → z ≡ false → flag (x || (y || z)) ≡ flag (x || y)
+no-third true y z n = refl
+no-third false true z n = refl
+no-third false false z n = ap flag n
+
+also : (x y z : Bool) → flag (x || y) ≡ 1 → flag (x || (y || z)) ≡ 1
+also true y z e = refl
+also false true z e = refl
+also false false z e = absurd (omega arith)
+
+refuted : (b : Bool) {A : Type 0} → (b ≡ true → A) → (A → ⊥) → b ≡ false
+refuted true h n = absurd (n (h refl))
+refuted false h n = refl
+
+module _ (s : List ℕ) (w : List ℤ) where
+  abbrev phases : Bool
+  phases = any (findings s w .operating)
+
+  abbrev ahead : Bool
+  ahead = isForward (findings s w .direction) && any (findings s w .asserting)
+
+  abbrev third : Bool
+  third = balancedFault (findings s w .asserting) (findings s w .unbalanced)
+
+  third-fails : (TripsBalanced s w → ⊥) → third ≡ false
+  unfolding findings loopBits
+  third-fails n = refuted (balancedFault (bits (assert s w (reach s))) (reachesPickup s (i2 s w))) (trips-balanced s w .0) n
+
+pub else-as-before : ElseAsBefore
+else-as-before =
+    record {
+      other-bytes = λ s w out d c k least most. byte-is s w out d c k most ∙ but-0 (findings s w) k least;
+      trip-stays = λ s w out d c h.
+          let not-balanced : TripsBalanced s w → ⊥ = λ b. ⊎-elim (λ reached. not-reached s w (b .0) reached) (λ some. some (b .1)) h in
+          byte-is s w out d c 0 (omega arith) ∙ no-third (phases s w) (ahead s w) (third s w) (third-fails s w not-balanced);
+      trips-still = λ s w out d c e. byte-is s w out d c 0 (omega arith) ∙ also (phases s w) (ahead s w) (third s w) e;
+    }
