@@ -6,8 +6,8 @@
 ** Contents: what the library is / in short / lent slices / the relay's state / what comes back /
 ** two entries / settings record / units / tests at the panel / what each field should be /
 ** conventions / a line of three ends, worked out / window / frame by frame / decision /
-** the second zone / rules / a decision, worked out / outside the library / limits / constants /
-** the five calls.
+** balanced faults / the second zone / rules / a decision, worked out / outside the library /
+** limits / constants / the five calls.
 **
 ** WHAT THE LIBRARY IS
 **
@@ -95,10 +95,11 @@
 ** fresh relay.
 **
 ** Version 2 had the state of this version and no second zone: offsets 26 and 27 of its records are
-** zero. Such a state serves as it is: the second zone is off, and the relay decides as before. Only
-** a record that version 2 counted as absent for these two bytes may be good now. The way back is
-** another matter: by version 2 a record with a second reach counts as absent, and nothing is in
-** force. So before going back, propose and confirm the record with a second reach of 0.
+** zero. Such a state serves as it is: the second zone is off, and all else is as for a state of
+** version 3. Only a record that version 2 counted as absent for these two bytes may be good now.
+** The way back is another matter: by version 2 a record with a second reach counts as absent, and
+** nothing is in force. So before going back, propose and confirm the record with a second reach of
+** 0.
 **
 ** Version 3 had the state and the records of this version. Such a state serves as it is, and the
 ** other way round. But by version 4 the relay trips on balanced faults too: see BALANCED FAULTS,
@@ -230,7 +231,7 @@
 ** for that. In the test of a balanced fault all three phases are alike. All in secondary volts,
 ** amperes and ohms, with Z as it was entered (Z1, unless UNITS had you enter a part of it), k of
 ** the line, and r and r2 as fractions. The differential trips throughout: look at bytes 2, 3 and 4
-** of the decision, not at byte 0.
+** of the decision, and at byte 0 only where it is said.
 **
 **   - Reach: Ia behind Va by the angle of Z (1 + k), and Va = f x r x |Z (1 + k)| x Ia. In byte 2
 **     GORSEPETAL_LOOP_AG has to be set at f = 0.95 and not at f = 1.05.
@@ -245,8 +246,11 @@
 **     voltage by the angle of Z, and V = f x r x |Z| x I. Byte 2 has to be 63 at f = 0.95 and 0 at
 **     f = 1.05, and byte 3 has to be 0 at both. With the currents turned round byte 2 has to be 0
 **     at f = 0.95 too. To see the trip, propose and confirm the record with a K of 100, at which no
-**     phase operates: byte 0 has to be 1 at f = 0.95 and 0 at f = 1.05. Then enter the line's own K
-**     again, twice, and read it back.
+**     phase operates: byte 0 has to be 1 at f = 0.95 and 0 at f = 1.05.
+**   - Pickup of 3I2, by the same record, if zf is below 0 and zr above: the balanced fault at f =
+**     0.9, with Ia larger by a part x of the pickup. Byte 0 has to be 1 at x = 0.95 and 0 at x =
+**     1.05, and byte 3 has to be 0 at both. Then enter the line's own K again, twice, and read it
+**     back.
 **   - Currents, under a load of known primary size. Bytes 8 to 19, divided by 64, have to be its
 **     peak counts, added up over the ends. Bytes 20 to 31, divided by 64, have to be no more than
 **     the charging current in peak counts and what the transformers' errors add. An end that is
@@ -296,12 +300,16 @@
 **        angle of Zb or Za is not the line angle, its part along it counts: its magnitude times the
 **        cosine of the difference.
 **   pickup of 3I2
-**        above the unbalance of the largest load, and above what the errors of the current
-**        transformers make of a balanced fault: at the pickup it would need a direction, which it
-**        does not have. Below 3I2 of the smallest fault that has to be told apart: under the pickup
-**        no direction is asked, and AB, BC and CA together trip. 3I2 is three times the negative
-**        sequence current: a fault from one phase to ground with current I in that phase and none
-**        in the others has a 3I2 of I.
+**        It parts the faults that have a direction from those that count as balanced. Below 3I2 of
+**        the smallest fault whose direction has to be asked: under the pickup it is not, and only
+**        AB, BC and CA together trip. 3I2 is three times the negative sequence current: a fault
+**        from one phase to ground with current I in that phase and none in the others has a 3I2 of
+**        I.
+**        Above the unbalance of the largest load. And above what a balanced fault within r shows of
+**        it, or distance does not trip on that fault: current transformers with an error of e
+**        percent make a 3I2 of up to 2e percent of its current, another frequency and the offset of
+**        the first cycles more than that (LIMITS). Where both cannot be had, the first decides, and
+**        balanced faults are left to the differential.
 **   r2   0 if the panel has no lamp for it: the second zone is then off. Otherwise it has to
 **        OVERREACH: to see every solid fault on the line, and so some beyond its ends. It is a lamp
 **        only, and trips nothing: THE SECOND ZONE says what it shows. On a line of two ends r2 is
@@ -339,7 +347,8 @@
 ** is twice that end's current. On a line of two ends that is 100 percent of the restraint, so the
 ** phase operates at every slope up to 99 as soon as its pickup is reached. With one phase reversed
 ** at end 1, 3I2 is twice that phase's load current, so a direction may appear under load. With all
-** three reversed at end 1, T has the other sign: a fault ahead looks like one behind.
+** three reversed at end 1, T has the other sign: a fault ahead looks like one behind. So does a
+** balanced one, and one behind may trip.
 **
 ** A LINE OF THREE ENDS, WORKED OUT
 **
@@ -377,6 +386,10 @@
 ** The trip under load: along the line angle the first zone ends at 0.8 x 4.079 = 3.26 ohm. At a
 ** load angle of 30 degrees it ends at 3.26 x cos(78.69 - 30) = 2.15 ohm. So at 50 V load does not
 ** trip up to 23.2 A.
+**
+** The pickup of 3I2 is for faults that have a direction. A balanced fault of 10 A in which one
+** transformer errs by 1 percent has a 3I2 of 0.1 A, and distance does not trip on it: the
+** differential does.
 **
 ** WINDOW
 **
@@ -485,15 +498,18 @@
 **   byte 3 is 1, and byte 2 is not 0    a fault ahead, in the first zone
 **   byte 3 is 0, and byte 1 is 0 too    a balanced fault, in the first zone; byte 2 is 56 to 63
 **
+** If byte 1 is not 0 and byte 3 is 0, the decision does not tell whether the rule for balanced
+** faults held too.
+**
 ** No direction is asked, no least current and no least voltage. What follows from that has to be
 ** seen to before version 4 guards a line:
 **
 **   - LOAD is balanced. All six loops see it at V / I, V from phase to ground, and it trips if this
 **     is not above r x |Z| x cos(line angle - load angle). Here r is a fraction, and the load angle
 **     is that by which the current is behind the voltage. So V / I has to be larger than this at
-**     the largest load and the lowest voltage; where r cannot do both, the load decides. Up to
-**     version 3 such a load tripped nothing. A swing of power that comes as near trips too: nothing
-**     here tells it from a fault.
+**     the largest load and the lowest voltage. Where r cannot cover its part of the line and stay
+**     short of the load, the load decides. Up to version 3 such a load tripped nothing. A swing of
+**     power that comes as near trips too: nothing here tells it from a fault.
 **   - BLOWN FUSES. With one voltage lost, one of the three loops still sees load at V / I, and it
 **     trips as said before. With two lost, none of them sees it farther than at half of V / I: it
 **     trips at half the current. With all three lost and nothing left, no loop asserts; but if a
@@ -503,16 +519,21 @@
 **     must not come then, the firmware has to ask for a current before it passes on one in which
 **     byte 1 is 0.
 **   - NEXT TO THE RELAY. A balanced fault that leaves no voltage at all asserts no loop, since
-**     there is no polarising memory: distance does not trip on it. The differential can.
-**   - BEHIND THE RELAY. The sign of m alone tells behind from ahead. A fault behind without
-**     resistance has a negative m, and does not trip. One close behind with a little resistance, as
-**     of an arc, may assert all six loops while load flows in from the far ends: then distance
-**     trips on it. On the line worked out above, with j 0.9 ohm behind the relay and j 1.5 ohm
-**     beyond the far end, 0.1 ohm at the busbar behind trips if the far source is ahead by 20
-**     degrees, and not if it is ahead by 10.
+**     there is no polarising memory: distance does not trip on it. The differential can. If noise
+**     is left of the voltages, the sign of m is chance, and distance may trip now and then, on a
+**     fault at the busbar behind as on one ahead.
+**   - BEHIND THE RELAY. The sign of m alone tells behind from ahead. A solid fault behind that the
+**     far ends feed, and that leaves a voltage well above the noise, has a negative m and does not
+**     trip. One close behind with a little resistance, as of an arc, may assert all six loops while
+**     load flows in from the far ends: then distance trips on it. On the line worked out above,
+**     with j 0.9 ohm behind the relay and j 1.5 ohm beyond the far end, 0.1 ohm at the busbar
+**     behind trips if the far source is ahead by 20 degrees, and not if it is ahead by 10. Where
+**     that must not be, the firmware has to ask for a least voltage, or for the differential,
+**     before it passes on a trip in which bytes 1 and 3 are 0.
 **   - NOT QUITE BALANCED. Below the pickup of 3I2 a fault counts as balanced, and its direction is
-**     not asked. At the pickup, direction alone decides. WHAT EACH FIELD SHOULD BE says how to set
-**     it.
+**     not asked. At the pickup, direction alone decides. A balanced fault has a 3I2 at first, from
+**     the offsets of its currents, and while that reaches the pickup this rule is out: LIMITS has
+**     the figures.
 **
 ** THE SECOND ZONE
 **
@@ -670,12 +691,16 @@
 **   - Another frequency. At 0.98 of the nominal one (49 Hz for 50) the magnitude reads between
 **     0.988 and 1.010, at 0.95 between 0.969 and 1.023, by the phase at which the window begins;
 **     and the phasor turns by 7.2 or 18 degrees a cycle. All channels turn alike, so a current
-**     through the line still adds up to zero. Where the frequency wanders, sample at 16 times that
-**     of the network.
+**     through the line still adds up to zero. But a balanced current has a 3I2 of 0.031 of it at
+**     0.98, and of 0.079 at 0.95. Where the frequency wanders, sample at 16 times that of the
+**     network.
 **   - Direct current that decays, after a fault that began at any moment. The magnitude reads
 **     between 0.75 and 1.17 in a window that lies wholly in the fault, by the time constant and the
 **     phase. So for a cycle or two a loop can reach beyond its setting. A current through the line
-**     still adds up to zero.
+**     still adds up to zero. But the offsets of the three phases differ, and a balanced fault has a
+**     3I2 of up to 0.46 of its current in the first such window, 0.31 with a time constant of one
+**     cycle. It falls by that time constant, to 0.042 after two cycles more. Until it is below its
+**     pickup, distance does not trip on the fault by the rule for balanced faults.
 **   - Harmonics 2 to 14 are taken out. The 15th and the 17th count in full, like the wave itself:
 **     the analog filter has to remove them.
 */

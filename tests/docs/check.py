@@ -62,7 +62,7 @@ def main():
         'limits in the manual': manual.check_limits(),
         'settings worked out in the manual': worked.check_example(),
         'steps of the decision worked out in the manual': worked.check_decision(),
-        'tests at the panel': worked.check_tests(),
+        'tests at the panel': worked.check_tests() + worked.check_pickup_test(),
         'figures of the zones under load': balanced.check_load(),
         'sentences on lost voltages': balanced.check_fuses(),
         'faults close behind': balanced.check_behind(),

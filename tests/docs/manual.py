@@ -316,6 +316,23 @@ def offset_wave():
     return min(sizes), max(sizes)
 
 
+def negative_sequence(samples):
+    """3I2 of three phases, each a third of a cycle after the one before; by each its samples."""
+    third = cmath.exp(2j * math.pi / 3)
+    return abs(sum(transform(of) * third ** (2 * phase) for phase, of in enumerate(samples)))
+
+
+def balanced_off_nominal(ratio):
+    """3I2 of a balanced current of peak 1 at a multiple of the nominal frequency."""
+    return negative_sequence([[math.cos(2 * math.pi * (ratio * n / 16 - phase / 3)) for n in range(16)] for phase in range(3)])
+
+
+def balanced_offset(constant):
+    """3I2 of a balanced fault of peak 1 in the first window that lies in it, by the time constant of its offsets in cycles."""
+    return negative_sequence([[math.cos(2 * math.pi * (n / 16 - phase / 3)) - math.cos(2 * math.pi * phase / 3) * math.exp(-n / 16 / constant)
+                               for n in range(16)] for phase in range(3)])
+
+
 def harmonic(order):
     return max(abs(transform([math.cos(2 * math.pi * order * n / 16 + phase) for n in range(16)])) for phase in (0, 1, 2))
 
@@ -326,10 +343,14 @@ def outward(low, high, places):
 
 
 def check_limits():
-    """What the manual says of another frequency, of direct current and of harmonics is what the transform gives."""
+    """What the manual says of another frequency, of direct current and of harmonics is what the transform gives, to three phases too."""
     text = plain('LIMITS')
     wanted = [f'At 0.98 of the nominal one (49 Hz for 50) the magnitude reads {outward(*off_nominal(0.98), 3)}', f'at 0.95 {outward(*off_nominal(0.95), 3)}',
               f'The magnitude reads {outward(*offset_wave(), 2)} in a window that lies wholly in the fault']
+    wanted.append(f'a balanced current has a 3I2 of {balanced_off_nominal(0.98):.3f} of it at 0.98, and of {balanced_off_nominal(0.95):.3f} at 0.95')
+    most, cycle = max(balanced_offset(hundredths / 100) for hundredths in range(5, 300, 5)), balanced_offset(1)
+    wanted.append(f'a 3I2 of up to {math.ceil(100 * most) / 100} of its current in the first such window, {cycle:.2f} with a time constant of one '
+                  f'cycle. It falls by that time constant, to {cycle * math.exp(-2):.3f} after two cycles more')
     passed = [order for order in range(2, 19) if harmonic(order) > 0.001]
     wanted.append(f'Harmonics 2 to {passed[0] - 1} are taken out. The ' + ' and the '.join(f'{order}th' for order in passed) + ' count in full')
     faults.extend(f'{HEADER}: LIMITS does not say "{sentence}"' for sentence in wanted if sentence not in text)

@@ -6,7 +6,7 @@ import re
 import sys
 from typing import NamedTuple
 
-from header import HEADER, constants
+from header import HEADER, constants, wanted_constants
 from manual import plain, section, words
 from tree import ROOT, faults, read
 
@@ -218,11 +218,12 @@ def without_differential(record):
     return record[:2] + bytes([0, 100]) + record[4:]
 
 
-def in_all_phases(record, volt, ampere, lost=()):
-    """The decision on three voltages alike, but for those that are lost, and three currents, by distance alone."""
+def in_all_phases(record, volt, ampere, lost=(), larger=0):
+    """The decision on three voltages alike, but for those that are lost, and three currents, the first larger by so much, by distance
+    alone."""
     turns = [cmath.rect(1, turn) for turn in TURNS]
     return from_test_set(without_differential(record), [0 if phase in lost else volt * turn for phase, turn in enumerate(turns)],
-                         [ampere * turn for turn in turns])
+                         [ampere * turn + (0 if phase else larger * ampere / abs(ampere)) for phase, turn in enumerate(turns)])
 
 
 def balanced(record, f):
@@ -230,6 +231,25 @@ def balanced(record, f):
     volts, ampere = f * 0.8 * abs(Z1) * AMPERE, AMPERE * abs(Z1) / Z1
     ahead, turned_round = in_all_phases(record, volts, ampere), in_all_phases(record, volts, -ampere)
     return ahead[0], ahead[2], ahead[3], turned_round[2]
+
+
+def check_pickup_test():
+    """The test of the pickup of 3I2 tells the pickup: of the worked record, and one that is twice as large does not pass it."""
+    sentence = 'Byte 0 has to be 1 at x = 0.95 and 0 at x = 1.05, and byte 3 has to be 0 at both'
+    if sentence not in plain('TESTS AT THE PANEL'):
+        faults.append(f'{HEADER}: the tests at the panel do not say "{sentence}"')
+    right, at = worked_record(), wanted_constants()['AT_NEGATIVE_SEQUENCE_PICKUP']
+    pickup = int.from_bytes(right[at:at + 2], 'big')
+    twice = right[:at] + (2 * pickup).to_bytes(2, 'big') + right[at + 2:]
+
+    def found(record, x):
+        ampere = AMPERE * abs(Z1) / Z1
+        decision_ = in_all_phases(record, 0.9 * 0.8 * abs(Z1) * AMPERE, ampere, larger=x * pickup / (math.sqrt(2) * 200))
+        return decision_[0], decision_[3]
+
+    if [found(right, x) for x in (0.95, 1.05)] != [(1, 0), (0, 0)] or found(twice, 1.05) == (0, 0):
+        faults.append(f'{HEADER}: the test of the pickup of 3I2 does not tell it')
+    return 1
 
 
 def check_tests():

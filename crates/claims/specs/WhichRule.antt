@@ -15,8 +15,9 @@ use Rattle.gorsepetal.specs.Calls.{ReadBack, Decided, Fed}
 use Rattle.claims.specs.Demand1.{Call, freshRelay, afterCalls, History}
 use Rattle.claims.specs.Feeding.{framesAfter, oneAfterAnother, AllBytes}
 
--- The buffer after the call holds document 01's decision, on the window's bytes b, for a record that by the log l was proposed and in the next
--- entry confirmed with the same 32 bytes, both answered 0, with no later confirmation answered 0; and its later bytes stayed.
+-- The buffer after the call holds the decision of documents 01 and 02, on the window's bytes b, for a record that by the log l was proposed
+-- and in the next entry confirmed with the same 32 bytes, both answered 0, with no later confirmation answered 0; and its later bytes
+-- stayed.
 pub record ByARecordSaidTwice (l : Log) (b out after : List ℕ) : Type 0 where
   pub rule : List ℕ
   pub said-twice : SaidTwice rule l

@@ -104,7 +104,7 @@ fn findings_in(s: &[u8], window: &[i16]) -> Findings
     }
 }
 
-// A balanced fault, which has no direction: 3I2 is below its pickup, and AB, BC and CA all assert (document 02, CR 4).
+// A balanced fault, which has no direction: 3I2 is below its pickup, and AB, BC and CA all assert in the first zone (document 02, CR 4).
 fn balanced_fault(asserting: u8, unbalanced: bool) -> bool
     ensures { λ r. ⌜ r ≡ balancedFault asserting unbalanced ⌝ }
 {

@@ -46,7 +46,7 @@ def about(pickup: int) -> dict[str, Value]:
                 key=lambda value: squared(Phasor(*value)))
     found = {'just below': below, 'at': (pickup, 0), 'just above': (pickup, 1)}
     if pickup % 5 == 0:
-        found['at, by both parts'] = -3 * pickup // 5, 4 * pickup // 5
+        found['by both parts at'] = -3 * pickup // 5, 4 * pickup // 5
     return found
 
 
