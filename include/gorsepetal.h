@@ -528,8 +528,8 @@
 **     load flows in from the far ends: then distance trips on it. On the line worked out above,
 **     with j 0.9 ohm behind the relay and j 1.5 ohm beyond the far end, 0.1 ohm at the busbar
 **     behind trips if the far source is ahead by 20 degrees, and not if it is ahead by 10. Where
-**     that must not be, the firmware has to ask for a least voltage, or for the differential,
-**     before it passes on a trip in which bytes 1 and 3 are 0.
+**     that must not be, the firmware has to ask for a least voltage before it passes on a trip in
+**     which bytes 1 and 3 are 0, or leave all balanced faults to the differential.
 **   - NOT QUITE BALANCED. Below the pickup of 3I2 a fault counts as balanced, and its direction is
 **     not asked. At the pickup, direction alone decides. A balanced fault has a 3I2 at first, from
 **     the offsets of its currents, and while that reaches the pickup this rule is out: LIMITS has
