@@ -318,18 +318,8 @@ static void state_of_version_3(void) {
   uint8_t wanted[DECISION];
   memcpy(wanted, halfway_decided, DECISION);
   wanted[GORSEPETAL_DECISION_AT_SECOND_ZONE] = ALL_LOOPS;
-  lend_state(record, other);
-  put(state.all + GUARD, COUNT, 16);
-  memcpy(state.all + GUARD + NUMBERS + FRAME, window, WINDOW - FRAME);
+  stored_state_serves(record, window, wanted);
   check("length", state.length, 738);
-  check("read back", read_back(RECORD), GORSEPETAL_DONE);
-  out_is("record", record);
-  check("decide", decide(window, WINDOW, DECISION), GORSEPETAL_DONE);
-  out_is("decision", wanted);
-  check("feed", feed(window + WINDOW - FRAME, FRAME, DECISION), GORSEPETAL_DONE);
-  out_is("decision", wanted);
-  check("confirm", confirm(other, RECORD), GORSEPETAL_DONE);
-  state_is(other, zeros, zeros);
 }
 
 const struct test_case balanced_cases[] = {

@@ -205,3 +205,17 @@ static const uint8_t *fed(const uint8_t *record, const uint8_t *window) {
 }
 
 const struct way ways[WAYS] = {{"decide", decided}, {"feed", fed}};
+
+void stored_state_serves(const uint8_t *record, const uint8_t *window, const uint8_t *wanted) {
+  lend_state(record, other);
+  put(state.all + GUARD, COUNT, 16);
+  memcpy(state.all + GUARD + NUMBERS + FRAME, window, WINDOW - FRAME);
+  check("read back", read_back(RECORD), GORSEPETAL_DONE);
+  out_is("record", record);
+  check("decide", decide(window, WINDOW, DECISION), GORSEPETAL_DONE);
+  out_is("decision", wanted);
+  check("feed", feed(window + WINDOW - FRAME, FRAME, DECISION), GORSEPETAL_DONE);
+  out_is("decision", wanted);
+  check("confirm", confirm(other, RECORD), GORSEPETAL_DONE);
+  state_is(other, zeros, zeros);
+}

@@ -92,4 +92,8 @@ extern const struct way {
 void out_untouched(void);
 void out_is(const char *what, const uint8_t *bytes);
 
+/* A stored state, window and all: this record in force, the other one pending, and all frames of the window kept but the last. It has to
+** read back, to decide and to feed to this decision, and its pending record to be confirmed. */
+void stored_state_serves(const uint8_t *record, const uint8_t *window, const uint8_t *wanted);
+
 #endif

@@ -271,17 +271,7 @@ static void refused_with_the_second_zone(void) {
 static void record_from_before(void) {
   uint8_t window[WINDOW], wanted[DECISION] = {1, 0, 1, 1, 0, 0, 0, 0, 0, 0x01, 0xF4, 0x00};
   fault_on(window, 0, 1, 1);
-  lend_state(good, other);
-  put(state.all + GUARD, COUNT, 16);
-  memcpy(state.all + GUARD + NUMBERS + FRAME, window, WINDOW - FRAME);
-  check("read back", read_back(RECORD), GORSEPETAL_DONE);
-  out_is("record", good);
-  check("decide", decide(window, WINDOW, DECISION), GORSEPETAL_DONE);
-  out_is("decision", wanted);
-  check("feed", feed(window + WINDOW - FRAME, FRAME, DECISION), GORSEPETAL_DONE);
-  out_is("decision", wanted);
-  check("confirm", confirm(other, RECORD), GORSEPETAL_DONE);
-  state_is(other, zeros, zeros);
+  stored_state_serves(good, window, wanted);
 }
 
 const struct test_case second_zone_cases[] = {
