@@ -244,8 +244,8 @@ def check_pickup_test():
 
     def found(record, x):
         ampere = AMPERE * abs(Z1) / Z1
-        decision_ = in_all_phases(record, 0.9 * 0.8 * abs(Z1) * AMPERE, ampere, larger=x * pickup / (math.sqrt(2) * 200))
-        return decision_[0], decision_[3]
+        told = in_all_phases(record, 0.9 * 0.8 * abs(Z1) * AMPERE, ampere, larger=x * pickup / (math.sqrt(2) * 200))
+        return told[0], told[3]
 
     if [found(right, x) for x in (0.95, 1.05)] != [(1, 0), (0, 0)] or found(twice, 1.05) == (0, 0):
         faults.append(f'{HEADER}: the test of the pickup of 3I2 does not tell it')

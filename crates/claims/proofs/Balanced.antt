@@ -9,6 +9,7 @@ use lib.Dec.{eqb}
 use lib.IntN.{ℤ, pos}
 use lib.ListN.{drop, List·getD-append}
 use Rattle.whole.specs.Bits.{bits}
+use Rattle.whole.specs.Exactly.{Exactly}
 use Rattle.settings.specs.Fields.{reach, secondReach}
 use Rattle.distance.specs.Constants.{replica, compensation}
 use Rattle.distance.specs.Direction.{reachesPickup}
@@ -18,7 +19,7 @@ use Rattle.decision.specs.declared.Findings.{Findings}
 use Rattle.decision.specs.Decision.{voltages, currentsOfEnd1, findings, any, isForward, balancedFault, decisionLength, decisionBytes}
 use Rattle.claims.specs.Bits.{BitsTell, AnyOf, AllOf}
 use Rattle.claims.specs.Decisions.{Decision}
-use Rattle.claims.specs.Demand2.{sixLoops, phaseLoopFacts, loopFacts, TripsBalanced, byte}
+use Rattle.claims.specs.Demand2.{phaseFacts, sixLoops, phaseLoopFacts, loopFacts, TripsForward, TripsBalanced, byte, Tells}
 use Rattle.claims.specs.Balanced.{BalancedFault, BetweenLimits, NoVoltage, bytesBefore, before, ElseAsBefore}
 use Rattle.claims.proofs.Bits.{none-told}
 use Rattle.claims.proofs.Decisions.{front}
@@ -36,13 +37,19 @@ balanced-fault s w out d c below =
       ),
     )
 
+-- where no loop trips, by direction or as a balanced fault, the phases alone do
+by-phases :
+    (s : List ℕ) (w : List ℤ) (d : List ℕ) → Tells s w d → (TripsForward s w → ⊥) → (TripsBalanced s w → ⊥)
+    → Exactly (byte d 0 ≡ 1) (AnyOf (phaseFacts s w))
+by-phases s w d told ahead balanced = (
+  λ t. ⊎-elim (λ any. any) (λ more. absurd (⊎-elim ahead balanced more)) (told .trip .0 t),
+  λ any. told .trip .1 (inl any),
+)
+
 pub between-limits : BetweenLimits
 between-limits s w out d c reached e =
     let told = demand-2 s w out d c .0 in
-    let none = told .none .0 e in (
-      λ t. ⊎-elim (λ any. any) (λ more. ⊎-elim (λ ahead. absurd (none .0 (ahead .0))) (λ balanced. absurd (not-reached s w (balanced .0) reached)) more) (told .trip .0 t),
-      λ any. told .trip .1 (inl any),
-    )
+    by-phases s w d told (λ ahead. told .none .0 e .0 (ahead .0)) (λ balanced. not-reached s w (balanced .0) reached)
 
 -- ---- no voltage
 
@@ -64,10 +71,7 @@ no-voltage s w out d c dead =
     let none : AnyOf (loopFacts s w (reach s)) → ⊥ = none-told 0 (loopFacts s w (reach s)) (subst (λ n. BitsTell n 0 (loopFacts s w (reach s))) first (told .loop-bits)) in (
       first,
       ap (λ x. byte x 4) (front c) ∙ no-loops (eqb (secondReach s) 0) (loopBits (replica s) (pos (secondReach s)) (sixLoops s w)) (quiet (secondReach s)),
-      (
-        λ t. ⊎-elim (λ any. any) (λ more. ⊎-elim (λ ahead. absurd (none (ahead .1))) (λ balanced. absurd (none (among s w (reach s) (balanced .1)))) more) (told .trip .0 t),
-        λ any. told .trip .1 (inl any),
-      ),
+      by-phases s w d told (λ ahead. none (ahead .1)) (λ balanced. none (among s w (reach s) (balanced .1))),
     )
 
 -- ---- as before
@@ -80,8 +84,7 @@ but-0 : (f : Findings) (k : ℕ) → 1 ≤ k → byte (decisionBytes f) k ≡ by
 but-0 f zero l = absurd (omega arith)
 but-0 f (suc k) l = refl
 
--- 1 or 0 for two reasons, and for a third
-
+-- 1 or 0, for two reasons and a third: where the third fails, and where one of the two holds
 no-third : (x y z : Bool) → z ≡ false → flag (x || (y || z)) ≡ flag (x || y)
 no-third true y z n = refl
 no-third false true z n = refl

@@ -201,7 +201,7 @@ module _ (s : List ℕ) (w : List ℤ) where
         magnitudes = magnitude-word rest;
       }
 
--- 3I2 does not reach its pickup and lie below it
+-- 3I2 cannot both lie below its pickup and reach it
 pub not-reached : (s : List ℕ) (w : List ℤ) → Balanced s w → PickupReached s (i2 s w) → ⊥
 not-reached s w below reached = true≢false (sym (pickup-reached s (i2 s w) .1 reached) ∙ below-pickup s (i2 s w) .1 below)
 
