@@ -65,7 +65,7 @@ fn number(a: Answer) -> u64
 }
 
 // Its place: the index or the offset where the table has one, else 0.
-fn place(a: Answer) -> u16
+fn place(a: Answer) -> u32
     ensures { λ r. ⌜ r ≡ place a ⌝ }
 {
     match a {
@@ -73,11 +73,11 @@ fn place(a: Answer) -> u16
         Answer::NoSettings => 0,
         Answer::OtherWindowLength => 0,
         Answer::NoRoom => 0,
-        Answer::MissingSample(at) => at,
+        Answer::MissingSample(at) => at as u32,
         Answer::OtherEntryLength => 0,
-        Answer::OutOfRange(at) => at as u16,
+        Answer::OutOfRange(at) => at as u32,
         Answer::NothingPending => 0,
-        Answer::Differs(at) => at as u16,
+        Answer::Differs(at) => at as u32,
         Answer::OtherFrameLength => 0,
         Answer::TooFewFrames => 0,
         Answer::NoRelay => 0,
