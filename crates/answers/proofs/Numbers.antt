@@ -5,7 +5,7 @@ use mathlib.Core.Bool.{Bool, true, false, false≢true}
 use native.Mathlib.Omega.{arith}
 use borrow.Author.Tests.{eq-eqb}
 use Rattle.answers.specs.declared.Answer.{Answer}
-use Rattle.answers.specs.declared.Answer.the-variants.{Done, NoSettings, OtherWindowLength, NoRoom, MissingSample, OtherEntryLength, OutOfRange, NothingPending, Differs, OtherFrameLength, TooFewFrames, NoRelay}
+use Rattle.answers.specs.declared.Answer.the-variants.{Done, NoSettings, OtherWindowLength, NoRoom, MissingSample, OtherEntryLength, OutOfRange, NothingPending, Differs, OtherFrameLength, TooFewFrames, InsideRecord, OtherNumber, BadFile, NoRelay}
 use Rattle.answers.specs.Answers.{number, givenBack, isDone}
 
 pub done-is : (a : Answer) → isDone a ≡ true → a ≡ Done
@@ -20,6 +20,9 @@ done-is NothingPending t = absurd (false≢true t)
 done-is (Differs k) t = absurd (false≢true t)
 done-is OtherFrameLength t = absurd (false≢true t)
 done-is TooFewFrames t = absurd (false≢true t)
+done-is (InsideRecord k) t = absurd (false≢true t)
+done-is (OtherNumber k) t = absurd (false≢true t)
+done-is BadFile t = absurd (false≢true t)
 done-is NoRelay t = absurd (false≢true t)
 
 pub zero-is : (a : Answer) → givenBack a ≡ 0 → a ≡ Done
@@ -51,4 +54,7 @@ number-small NothingPending = omega arith
 number-small (Differs k) = omega arith
 number-small OtherFrameLength = omega arith
 number-small TooFewFrames = omega arith
+number-small (InsideRecord k) = omega arith
+number-small (OtherNumber k) = omega arith
+number-small BadFile = omega arith
 number-small NoRelay = omega arith

@@ -1,10 +1,10 @@
-// The numbers given back (document 01, "Numbers given back"; 9 and 10 are of document 02, CR 1): each answer by name, and the one number
-// that C gets.
+// The numbers given back (document 01, "Numbers given back"; 9 and 10 are of document 02, CR 1, and 11 to 13 of CR 5): each answer by name,
+// and the one number that C gets.
 ghost use mathlib.Core.Path.{_≡_};
 ghost use Prim.Native.Nat.{_<_};
 ghost use Rattle.answers.specs.Answers.{number, place, givenBack, numberIn, placeIn, isDone};
 
-// Each answer of the table. A place is an index in a window, or an offset in a record.
+// Each answer of the table. A place is an index in a window, an offset in a settings record, or the index of a record in an event file.
 pub enum Answer {
     Done,
     NoSettings,
@@ -17,6 +17,9 @@ pub enum Answer {
     Differs(u8),
     OtherFrameLength,
     TooFewFrames,
+    InsideRecord(u32),
+    OtherNumber(u32),
+    BadFile,
     NoRelay,
 }
 
@@ -42,6 +45,12 @@ pub const OTHER_FRAME_LENGTH: u64 = 9;
 
 pub const TOO_FEW_FRAMES: u64 = 10;
 
+pub const INSIDE_RECORD: u64 = 11;
+
+pub const OTHER_NUMBER: u64 = 12;
+
+pub const BAD_FILE: u64 = 13;
+
 pub const NO_RELAY: u64 = 17;
 
 // The number of an answer.
@@ -60,6 +69,9 @@ fn number(a: Answer) -> u64
         Answer::Differs(_) => DIFFERS,
         Answer::OtherFrameLength => OTHER_FRAME_LENGTH,
         Answer::TooFewFrames => TOO_FEW_FRAMES,
+        Answer::InsideRecord(_) => INSIDE_RECORD,
+        Answer::OtherNumber(_) => OTHER_NUMBER,
+        Answer::BadFile => BAD_FILE,
         Answer::NoRelay => NO_RELAY,
     }
 }
@@ -80,6 +92,9 @@ fn place(a: Answer) -> u32
         Answer::Differs(at) => at as u32,
         Answer::OtherFrameLength => 0,
         Answer::TooFewFrames => 0,
+        Answer::InsideRecord(at) => at,
+        Answer::OtherNumber(at) => at,
+        Answer::BadFile => 0,
         Answer::NoRelay => 0,
     }
 }

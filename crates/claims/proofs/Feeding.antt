@@ -11,6 +11,8 @@ use lib.IntN.{ℤ, pos}
 use lib.Seq.{getD-drop}
 use lib.ListN.{length, take, drop, replicate, length-append, length-drop, getD, List·getD-append}
 use Rattle.answers.specs.Answers.{givenBack}
+use Rattle.lent.specs.Bytes.{Every, Byte}
+use Rattle.lent.proofs.Every.{every-append, every-drop}
 use Rattle.samples.specs.declared.Found.the-variants.{At}
 use Rattle.samples.specs.Window.{frames, numbersOf, firstMissing}
 use Rattle.samples.proofs.Bytes.{held, numbers-append}
@@ -18,9 +20,8 @@ use Rattle.samples.proofs.Missing.{first-at, is-first}
 use Rattle.decision.specs.Decide.{ofFound}
 use Rattle.stream.specs.declared.Window.{Window}
 use Rattle.stream.specs.Window.{counted, movedOn, none, HasRoom}
-use Rattle.stream.specs.Stored.{storedLength, Every, Byte, Sound}
+use Rattle.stream.specs.Stored.{storedLength, Sound}
 use Rattle.stream.specs.History.{after, Frames, newest, Remembers}
-use Rattle.stream.proofs.Every.{every-append, every-drop}
 use Rattle.stream.proofs.Bytes.{numbers-samples}
 use Rattle.stream.proofs.Storing.{none-sound, fresh-none, moved-sound, kept-read}
 use Rattle.stream.proofs.Moving.{moved-newest}

@@ -8,7 +8,7 @@ use lib.Dec.{eqb}
 use lib.ListN.{length}
 use Rattle.answers.specs.Answers.{givenBack}
 use Rattle.samples.specs.Window.{frames}
-use Rattle.stream.specs.Stored.{Every, Byte}
+use Rattle.lent.specs.Bytes.{Every, Byte}
 use Rattle.stream.specs.History.{newest}
 use Rattle.feed.specs.Feed.{numbersOfFrame}
 use Rattle.gorsepetal.specs.State.{stateLength, freshState, settingsOf, windowOf}

@@ -6,7 +6,7 @@ use mathlib.Core.List.{List, [], _∷_, _++_}
 use lib.ListN.{length, take, drop}
 use Rattle.samples.specs.Window.{frames, channels, windowLength, numbersOf}
 use Rattle.samples.specs.Order.{NoneMissing}
-use Rattle.stream.specs.Stored.{Every, Byte}
+use Rattle.lent.specs.Bytes.{Every, Byte}
 use Rattle.settings.specs.Fields.{ends}
 use Rattle.entry.specs.Pair.{recordLength}
 use Rattle.entry.specs.Log.{Log, SaidTwice}

@@ -2,4 +2,5 @@
 pub mod Good
 pub mod Cases
 pub mod Numbers
+pub mod EventCases
 pub mod Contracts

@@ -8,6 +8,9 @@ ghost use Rattle.entry.specs.Pair.{recordLength};
 ghost use Rattle.entry.specs.Entry.{proposeAnswer, ofStored};
 ghost use Rattle.gorsepetal.specs.State.{stateLength};
 ghost use Rattle.gorsepetal.specs.Calls.{verdict, inForce, windowBytes, Unchanged, Proposed, Confirmed, ReadBack, DecidedNumbers, Decided, Fed};
+
+pub mod event_files;
+
 use answers::Answer;
 use settings::Checked;
 

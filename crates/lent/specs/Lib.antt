@@ -1,2 +1,3 @@
 -- What is done to lent bytes.
 pub mod Lent
+pub mod Bytes

@@ -9,17 +9,18 @@ use borrow.Author.Tests.{lt-ltb, le-ltb, ltb-true, ltb-false}
 use lib.Dec.{ltb}
 use lib.IntN.{ℤ, pos, negsuc, _-ℤ_}
 use lib.ListN.{length, take, set, getD}
-use lib.Seq.{sets-eq, take-suc, paste-zero, length-take-le}
+use lib.Seq.{take-suc, length-take-le}
 use Rattle.whole.specs.TwosComplement.{signed, unsigned}
 use Rattle.whole.proofs.TwosComplement.{from-32768}
 use Rattle.lent.specs.Lent.{over}
-use Rattle.lent.proofs.Over.{over-over}
+use Rattle.lent.proofs.Over.{over-over, over-none, over-two}
 use Rattle.samples.specs.Window.{numbersOf}
-use Rattle.stream.specs.Stored.{word, bytesOf, Every, Sample, Byte}
+use Rattle.stream.specs.Stored.{word, bytesOf, Sample}
+use Rattle.lent.specs.Bytes.{Every, Byte}
 
 -- two stores are a word written
 pub word-put : (d : List ℕ) (at v : ℕ) → at + 2 ≤ length d → set (set d at (v / 256)) (at + 1) (v % 256) ≡ over d at (word v)
-word-put d at v room = rw (add-one at) (sets-eq (word v) d at room)
+word-put d at v room = over-two d at (v / 256) (v % 256) room
 
 pub bytes-length : (xs : List ℤ) → length (bytesOf xs) ≡ 2 * length xs
 unfolding bytesOf
@@ -71,7 +72,7 @@ written-read (x ∷ xs) b h = ap₂ _∷_ (rw (two-bytes (unsigned x)) (signed-u
 -- the loop that writes numbers: before its first turn, and one turn
 pub put-none : (d : List ℕ) (at : ℕ) → d ≡ over d at (bytesOf [])
 unfolding bytesOf
-put-none d at = paste-zero d at []
+put-none d at = over-none d at
 
 pub put-more :
     (d s : List ℕ) (at : ℕ) (xs : List ℤ) (i : ℕ) → at ≤ length d → i < length xs → s ≡ over d at (bytesOf (take i xs)) →

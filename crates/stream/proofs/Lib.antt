@@ -1,5 +1,4 @@
 -- What belongs to no one function: laws of windows, of their bytes and of their histories, and what the two walks by hand share.
-pub mod Every
 pub mod Bytes
 pub mod Moving
 pub mod Reading

@@ -14,8 +14,9 @@ use Rattle.samples.specs.Window.{windowLength, numbersOf}
 use Rattle.samples.proofs.Bytes.{held, numbers-drop}
 use Rattle.stream.specs.declared.Window.{Window}
 use Rattle.stream.specs.Window.{newestPart, behind, movedOn, none, HasRoom}
-use Rattle.stream.specs.Stored.{numberBytes, storedLength, word, bytesOf, storedFirst, stored, windowAt, kept, Every, Sample, Sound}
-use Rattle.stream.proofs.Every.{every-append, every-take, every-drop, every-copy}
+use Rattle.stream.specs.Stored.{numberBytes, storedLength, word, bytesOf, storedFirst, stored, windowAt, kept, Sample, Sound}
+use Rattle.lent.specs.Bytes.{Every}
+use Rattle.lent.proofs.Every.{every-append, every-take, every-drop, every-copy}
 use Rattle.stream.proofs.Bytes.{bytes-first, two-bytes, written-read}
 use Rattle.stream.proofs.Moving.{take-drop, moved-length, moved-behind}
 use Rattle.stream.proofs.Reading.{part-holds}

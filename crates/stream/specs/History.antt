@@ -7,7 +7,7 @@ use lib.IntN.{ℤ}
 use lib.ListN.{length, drop}
 use Rattle.stream.specs.declared.Window.{Window}
 use Rattle.stream.specs.Window.{newestPart, movedOn}
-use Rattle.stream.specs.Stored.{Every}
+use Rattle.lent.specs.Bytes.{Every}
 
 -- The window after a list of frames, the first fed first.
 unfoldable pub after : ℕ → ℕ → Window → List (List ℤ) → Window

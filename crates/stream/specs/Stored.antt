@@ -6,6 +6,7 @@ use lib.IntN.{ℤ, pos, negsuc}
 use lib.ListN.{length, take, drop, getD}
 use Rattle.whole.specs.TwosComplement.{unsigned}
 use Rattle.lent.specs.Lent.{over}
+use Rattle.lent.specs.Bytes.{Every}
 use Rattle.samples.specs.Window.{windowLength, numbersOf}
 use Rattle.stream.specs.declared.Window.{Window}
 use Rattle.stream.specs.Window.{movedOn}
@@ -42,18 +43,10 @@ windowAt state at = record { numbers = numbersOf (take numberBytes (drop (at + 2
 abbrev pub kept : ℕ → ℕ → ℕ → List ℕ → List ℤ → List ℕ
 kept n m at state frame = over state at (storedFirst (n * m) (movedOn n m (windowAt state at) frame))
 
--- All of a list are so.
-abbrev pub Every : {A : Type 0} → (A → Type 0) → List A → Type 0
-Every P [] = Unit {0}
-Every P (x ∷ xs) = P x × Every P xs
-
 -- A signed number of 16 bits: -32768 to 32767.
 abbrev pub Sample : ℤ → Type 0
 Sample (pos n) = n < 32768
 Sample (negsuc n) = n < 32768
-
-abbrev pub Byte : ℕ → Type 0
-Byte b = b < 256
 
 -- A window as a struct holds it: 336 numbers of 16 bits, and a count of 16 bits.
 pub record Sound (w : Window) : Type 0 where

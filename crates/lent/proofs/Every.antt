@@ -2,7 +2,7 @@
 use Prim.Native.Nat.{ℕ, zero, suc}
 use mathlib.Core.List.{List, [], _∷_, _++_}
 use lib.ListN.{take, drop, replicate}
-use Rattle.stream.specs.Stored.{Every}
+use Rattle.lent.specs.Bytes.{Every}
 
 module _ {A : Type 0} (P : A → Type 0) where
   pub every-append : (xs ys : List A) → Every P xs → Every P ys → Every P (xs ++ ys)

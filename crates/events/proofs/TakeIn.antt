@@ -1,0 +1,167 @@
+-- Each way out of taking in a piece, on plain lists. The piece stands behind the bytes in hand, and all that the outcome asks of them can be read
+-- where they lie.
+use Prim.Native.Nat.{ℕ, suc, _+_, _*_, _-_, _<_, _≤_}
+use mathlib.Core.Path.{_≡_, refl, sym, ap, ap₂, _∙_}
+use mathlib.Core.List.{List, [], _∷_, _++_, append-assoc}
+use mathlib.Core.Bool.{Bool, true, false, not}
+use native.Mathlib.Omega.{arith}
+use native.Mathlib.Numerals.{add-one}
+use borrow.Author.Tests.{le-leb, lt-leb, leb-true}
+use lib.Dec.{eqb, leb}
+use lib.ListN.{length, take, drop, set, getD, replicate, length-append, length-drop, take-append-drop}
+use lib.Seq.{length-take-le, take-at, drop-at, take-add, getD-take, getD-drop, take-append-le, drop-append-le, drop-drop}
+use Rattle.answers.specs.declared.Answer.the-variants as answer
+use Rattle.lent.specs.Lent.{over}
+use Rattle.lent.proofs.Over.{over-length, over-read}
+use Rattle.samples.specs.Window.{channels}
+use Rattle.records.specs.Record.{wordAt, swapped, narrow, recordLength, numberIn, frameIn}
+use Rattle.records.proofs.Swapped.{swapped-length}
+use Rattle.files.specs.Reader.{wrongNumber}
+use Rattle.events.specs.Slice.{readerLength, handAt, endsIn, statusIn, heldIn, indexIn, shapeIn, handIn, isReading, wrongIn, frontOf, finished, TookIn}
+use Rattle.events.specs.declared.Step.the-variants as step
+use Rattle.events.proofs.Standing.{holds, hand-length}
+
+-- ---- the test of the number
+
+pub wrong-few : (s : List ℕ) (index : ℕ) {have : ℕ} → have < 4 → false ≡ wrongIn s have index
+wrong-few s index {have} l = rw (lt-leb 4 have l)
+
+pub wrong-other : (s : List ℕ) (index : ℕ) {have w : ℕ} → 4 ≤ have → w ≡ wordAt s 56 → not (eqb w (index + 1)) ≡ wrongIn s have index
+wrong-other s index {have} l e = rw (le-leb 4 have l, e)
+
+-- ---- a record finished
+
+-- what is written over the front of a list can be taken from there
+pub front-over : (d x : List ℕ) → take (length x) (over d 0 x) ≡ x
+front-over d x = over-read d 0 x (omega arith)
+
+-- the frame's bytes exchanged in room for the longest, and then written
+pub finish-is :
+    (s : List ℕ) (ends : ℕ) {n : ℕ} {frame one left : List ℕ} → length s ≡ readerLength → ends ≤ 6 → n ≡ channels ends →
+    frame ≡ over (replicate 42 0) 0 (swapped (take (56 + 8 + 2 * n - 64) (drop 64 s))) →
+    one ≡ over s 3 (0 ∷ getD s 56 0 ∷ getD s 57 0 ∷ getD s 58 0 ∷ getD s 59 0 ∷ getD s 63 0 ∷ getD s 62 0 ∷ getD s 61 0 ∷ getD s 60 0 ∷ []) →
+    left ≡ over one 12 (take (2 * n - 0) frame) → left ≡ finished ends (drop 56 s) s
+finish-is s ends {n} {frame} l most e f o k =
+    let m : ℕ = 2 * channels ends in
+    let x : List ℕ = take m (drop 64 s) in
+    let long : length x ≡ m = length-take-le m (drop 64 s) (simp length-drop (omega arith)) in
+    let turned : length (swapped x) ≡ m = swapped-length (channels ends) x long in
+    let same : 56 + 8 + 2 * n - 64 ≡ m = omega arith in
+    let none : 2 * n - 0 ≡ length (swapped x) = omega arith in
+    let read : take (2 * n - 0) frame ≡ swapped x = rw (f, same, none) (front-over (replicate 42 0) (swapped x)) in
+    let hand : take m (drop 8 (drop 56 s)) ≡ x = ap (take m) (drop-drop 8 56 s) in
+    let byte : (j : ℕ) → getD (drop 56 s) j 0 ≡ getD s (56 + j) 0 = λ j. getD-drop 56 s j 0 in
+    k ∙ ap₂ (λ (a b : List ℕ). over a 12 b) o read ∙ rw (hand, byte 0, byte 1, byte 2, byte 3, byte 4, byte 5, byte 6, byte 7)
+
+-- bytes where they lie
+hand-byte : (s : List ℕ) (k : ℕ) → getD s (56 + k) 0 ≡ getD (drop 56 s) k 0
+hand-byte s k = sym (getD-drop 56 s k 0)
+
+-- ---- a piece behind the bytes in hand
+
+hand-over : (s : List ℕ) (base held : ℕ) (piece : List ℕ) → base + held ≤ length s → take (held + length piece) (drop base (over s (base + held) piece)) ≡ take held (drop base s) ++ piece
+hand-over s base held piece room =
+    let h : List ℕ = take held (drop base s) in
+    let r : List ℕ = drop (base + held + length piece) s in
+    let lb : length (take base s) ≡ base = length-take-le base s (omega arith) in
+    let lh : length h ≡ held = length-take-le held (drop base s) (simp length-drop (omega arith)) in
+    let whole : over s (base + held) piece ≡ take base s ++ ((h ++ piece) ++ r) =
+    ap (λ (t : List ℕ). t ++ piece ++ r) (take-add base held s) ∙
+    ap (λ (t : List ℕ). t ++ r) (append-assoc (take base s) h piece) ∙
+    append-assoc (take base s) (h ++ piece) r in
+    ap (λ (t : List ℕ). take (held + length piece) (drop base t)) whole ∙
+    ap (take (held + length piece)) (drop-at (take base s) ((h ++ piece) ++ r) base lb) ∙
+    take-at (h ++ piece) r (held + length piece) (length-append h piece ∙ ap (λ (n : ℕ). n + length piece) lh)
+
+module _ (s piece : List ℕ) (l : length s ≡ readerLength) (y : isReading s ≡ true) (room : heldIn s + length piece ≤ recordLength (shapeIn s)) where
+  abbrev pub t : List ℕ
+  t = over s (56 + heldIn s) piece
+
+  abbrev pub g : List ℕ
+  g = handIn s ++ piece
+
+  pub take-range : {ends status : ℕ} → ends ≡ endsIn s → status ≡ statusIn s → (ends ≤ 6) × (status ≤ 96)
+  take-range d u = let h = holds s y in (omega arith, omega arith)
+
+  pub take-fits : 56 + heldIn s + length piece ≤ 118
+  take-fits = omega (arith, holds s y .small)
+
+  pub t-length : length t ≡ readerLength
+  t-length = over-length s (56 + heldIn s) piece (omega (arith, take-fits)) ∙ l
+
+  pub mid-length : {held : ℕ} {mid : List ℕ} → held ≡ heldIn s → mid ≡ over s (56 + held) piece → length mid ≡ readerLength
+  mid-length h k = ap length (k ∙ ap (λ (n : ℕ). over s (56 + n) piece) h) ∙ t-length
+
+  pub g-length : length g ≡ heldIn s + length piece
+  g-length = length-append (handIn s) piece ∙ ap (λ (n : ℕ). n + length piece) (hand-length s l y)
+
+  pub in-hand : take (heldIn s + length piece) (drop 56 t) ≡ g
+  in-hand = hand-over s 56 (heldIn s) piece (omega (arith, take-fits))
+
+  -- a byte of the record in hand, and its frame, where they lie
+  g-byte : (k : ℕ) → k < heldIn s + length piece → getD (drop 56 t) k 0 ≡ getD g k 0
+  g-byte k h = sym (getD-take (heldIn s + length piece) (drop 56 t) k 0 h) ∙ ap (λ (q : List ℕ). getD q k 0) in-hand
+
+  g-number : 4 ≤ heldIn s + length piece → wordAt t 56 ≡ numberIn g
+  unfolding wordAt
+  g-number h =
+      let byte : (k : ℕ) → k < 4 → getD t (56 + k) 0 ≡ getD g k 0 = λ k q. hand-byte t k ∙ g-byte k (omega arith) in
+      rw (byte 0 (omega arith), byte 1 (omega arith), byte 2 (omega arith), byte 3 (omega arith))
+
+  wrong-is : wrongIn t (heldIn s + length piece) (indexIn s) ≡ wrongNumber (indexIn s) g
+  wrong-is = by-test (leb 4 (heldIn s + length piece)) refl
+    where
+      by-test : (b : Bool) → leb 4 (heldIn s + length piece) ≡ b → wrongIn t (heldIn s + length piece) (indexIn s) ≡ wrongNumber (indexIn s) g
+      by-test true e = rw (g-length, e, g-number (leb-true 4 (heldIn s + length piece) e), add-one (indexIn s))
+      by-test false e = rw (g-length, e)
+
+  -- what follows the record in hand has no part in it
+  g-front : 8 ≤ heldIn s + length piece → frontOf (drop 56 t) ≡ frontOf g
+  g-front h =
+      let byte : (k : ℕ) → k < 8 → getD (drop 56 t) k 0 ≡ getD g k 0 = λ k q. g-byte k (omega arith) in
+      rw (byte 0 (omega arith), byte 1 (omega arith), byte 2 (omega arith), byte 3 (omega arith), byte 4 (omega arith), byte 5 (omega arith), byte 6 (omega arith), byte 7 (omega arith))
+
+  g-frame : 8 + 2 * channels (endsIn s) ≤ heldIn s + length piece → frameIn (endsIn s) (drop 56 t) ≡ frameIn (endsIn s) g
+  g-frame h =
+      let n : ℕ = heldIn s + length piece in
+      let m : ℕ = 2 * channels (endsIn s) in
+      let whole : take n (drop 56 t) ++ drop n (drop 56 t) ≡ drop 56 t = take-append-drop n (drop 56 t) in
+      let long : length (take n (drop 56 t)) ≡ n = length-take-le n (drop 56 t) (simp length-drop (omega (arith, t-length, take-fits))) in
+      let past : length (drop 8 (take n (drop 56 t))) ≡ n - 8 = length-drop 8 (take n (drop 56 t)) ∙ ap (λ (k : ℕ). k - 8) long in
+      ap swapped
+      (ap (λ (q : List ℕ). take m (drop 8 q)) (sym whole) ∙
+      ap (take m) (drop-append-le 8 (take n (drop 56 t)) (drop n (drop 56 t)) (omega (arith, long))) ∙
+      take-append-le m (drop 8 (take n (drop 56 t))) (drop n (drop 56 t)) (omega (arith, past)) ∙
+      ap (λ (q : List ℕ). take m (drop 8 q)) in-hand)
+
+  module _ {held index : ℕ} {mid : List ℕ} {b : Bool}
+      (h : held ≡ heldIn s) (i : index ≡ indexIn s) (k : mid ≡ over s (56 + held) piece) (w : b ≡ wrongIn mid (held + length piece) index) where
+    mid-is : mid ≡ t
+    mid-is = k ∙ ap (λ (n : ℕ). over s (56 + n) piece) h
+
+    tested : b ≡ wrongNumber (indexIn s) g
+    tested = w ∙ rw (mid-is, h, i) wrong-is
+
+    pub took-wrong : b ≡ true → TookIn s piece (step.Ended (answer.OtherNumber index)) (set mid 2 12)
+    took-wrong e = let wrong : wrongNumber (indexIn s) g ≡ true = sym tested ∙ e in record { step = rw (wrong, i); reader = rw (wrong, mid-is) }
+
+    module _ {ends status n : ℕ} (no : b ≡ false) (d : ends ≡ endsIn s) (u : status ≡ statusIn s) (m : n ≡ recordLength (narrow ends status)) where
+      right : wrongNumber (indexIn s) g ≡ false
+      right = sym tested ∙ no
+
+      long : n ≡ recordLength (shapeIn s)
+      long = m ∙ rw (d, u)
+
+      pub took-more : held + length piece < n → TookIn s piece step.Taken (set mid 3 (held + length piece))
+      took-more few =
+          let more : leb (recordLength (shapeIn s)) (length g) ≡ false = lt-leb (recordLength (shapeIn s)) (length g) (omega (arith, g-length, long)) in
+          record { step = rw (right, more); reader = rw (right, more, mid-is, h) }
+
+      pub took-whole : {left : List ℕ} → n ≤ held + length piece → left ≡ finished ends (drop 56 mid) mid → TookIn s piece step.Whole left
+      took-whole {left} all e =
+          let whole : recordLength (shapeIn s) ≤ length g = omega (arith, g-length, long) in
+          let full : leb (recordLength (shapeIn s)) (length g) ≡ true = le-leb (recordLength (shapeIn s)) (length g) whole in
+          let front = g-front (omega (arith, whole, g-length)) in
+          let frame = g-frame (omega (arith, whole, g-length)) in
+          let is : left ≡ finished (endsIn s) g t = e ∙ rw (mid-is, d, front, frame) in
+          record { step = rw (right, full); reader = rw (right, full) is }

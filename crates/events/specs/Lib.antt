@@ -1,0 +1,2 @@
+-- The reader of event files in its slice.
+pub mod Slice
