@@ -1,4 +1,4 @@
--- What is known of a decision, by decide or by feed: a good record was in force, and its decision stands at the front of the buffer.
+-- What is known of a decision, by decide, by feed or by an event file: a good record was in force, and its decision stands at the front of the buffer.
 use Prim.Native.Nat.{ℕ}
 use mathlib.Core.Path.{_≡_, refl, sym, ap, _∙_}
 use mathlib.Core.List.{List, _++_}
@@ -16,7 +16,8 @@ use Rattle.feed.specs.Feed.{keeps, keptAnswer}
 use Rattle.gorsepetal.specs.State.{stateLength, settingsOf, windowOf}
 use Rattle.gorsepetal.specs.Calls.{isRelay, GoodRecord, inForce, ready, fitsBytes, decideAnswer, feedKeeps, feedAnswer, Decided, Fed}
 use Rattle.gorsepetal.proofs.Good.{ready-good}
-use Rattle.claims.specs.Decisions.{Decision, by-decide, by-feed}
+use Rattle.claims.specs.Decisions.{Decision, by-decide, by-feed, by-events}
+use Rattle.claims.proofs.Frames.{read-is-fed}
 
 module _ (s b out after : List ℕ) (c : Decided s b out 0 after) where
   is-done : isDone (decideAnswer s (fitsBytes s b) (numbersOf b) out) ≡ true
@@ -64,7 +65,10 @@ module _ (s f out s₁ d : List ℕ) (c : Fed s f out 0 s₁ d) where
 pub good : {r : List ℕ} {w : List ℤ} {out d : List ℕ} → Decision r w out d → GoodRecord r
 good (by-decide {s} {b} {out} {d} c) = in-force s b out d c
 good (by-feed {s} {f} {out} {s₁} {d} c) = fed-good s f out s₁ d c
+good (by-events {s} {r} {p} {out} {f} {s₁} {r₁} {d} c e) = fed-good s f out s₁ d (read-is-fed s r p out f 0 s₁ r₁ d c e)
 
 pub front : {r : List ℕ} {w : List ℤ} {out d : List ℕ} → Decision r w out d → d ≡ decision r w ++ drop decisionLength out
 front (by-decide {s} {b} {out} {d} c) = at-front s b out d c
 front (by-feed {s} {f} {out} {s₁} {d} c) = c .buffer ∙ rw (fed-done s f out s₁ d c)
+front (by-events {s} {r} {p} {out} {f} {s₁} {r₁} {d} c e) =
+    let fed = read-is-fed s r p out f 0 s₁ r₁ d c e in fed .buffer ∙ rw (fed-done s f out s₁ d fed)

@@ -15,9 +15,9 @@ use Rattle.entry.specs.Log.{Entry, propose, confirm, Log, _▷_, Leads, from-fr
 use Rattle.entry.proofs.History.{in-force-said-twice, said-twice-in-force}
 use Rattle.gorsepetal.specs.State.{stateLength, settingsOf}
 use Rattle.gorsepetal.specs.Calls.{verdict, GoodRecord}
-use Rattle.claims.specs.Demand1.{Call, proposing, confirming, reading-back, deciding, feeding, Logged, freshRelay, next, afterCalls, Demand1, History, fresh, proposed, confirmed, other, OverHistories}
+use Rattle.claims.specs.Demand1.{Call, proposing, confirming, reading-back, deciding, feeding, reading-events, Logged, freshRelay, next, afterCalls, Demand1, History, fresh, proposed, confirmed, other, OverHistories}
 use Rattle.claims.proofs.Relay.{Left, propose-left, confirm-left}
-use Rattle.claims.proofs.Unmoved.{feed-leaves-settings}
+use Rattle.claims.proofs.Unmoved.{feed-leaves-settings, read-leaves-settings}
 
 -- zero bytes are no good record: the table refuses them at 0
 pub blank : verdict nothing ≡ OutOfRange 0
@@ -59,6 +59,8 @@ history-next r (reading-back out) h = h
 history-next r (deciding samples out) h = h
 history-next r (feeding f out) h =
     let k = feed-leaves-settings (r .state) f out _ _ _ (led h .relay) (record { given = refl; state = refl; buffer = refl }) in other h (k .0) (k .1)
+history-next r (reading-events q p out) h =
+    let k = read-leaves-settings (r .state) q p out _ _ _ _ (led h .relay) (record { given = refl; state = refl; reader = refl; buffer = refl }) in other h (k .0) (k .1)
 
 history-after : (r : Logged) (cs : List Call) → History (r .log) (r .state) → History (afterCalls r cs .log) (afterCalls r cs .state)
 history-after r [] h = h

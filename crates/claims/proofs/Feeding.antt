@@ -1,7 +1,7 @@
 -- What the firmware hears: the window in the relay's state is the one that the frames kept since it was empty were fed to, so the 16 frames that
 -- are decided on are the newest of them.
 use Prim.Native.Nat.{ℕ, zero, suc, _+_, _*_, _-_, _≤_, _<_, min}
-use mathlib.Core.Path.{_≡_, refl, sym, ap, ap₂, subst, _∙_}
+use mathlib.Core.Path.{_≡_, refl, sym, ap, ap₂, subst, subst₂, _∙_}
 use mathlib.Core.List.{List, [], _∷_, _++_, flatten, map}
 use mathlib.Core.Bool.{Bool, true, false, cond, false≢true}
 use native.Mathlib.Omega.{arith}
@@ -28,15 +28,17 @@ use Rattle.stream.proofs.Moving.{moved-newest}
 use Rattle.stream.proofs.History.{fed, after-more}
 use Rattle.feed.specs.Feed.{numbersOfFrame, withFrame, withKept}
 use Rattle.gorsepetal.specs.State.{stateLength, freshState, windowOffset, settingsOf, windowOf}
-use Rattle.gorsepetal.specs.Calls.{confirmAnswer, lengthInForce, newestOf, feedAnswer, Fed}
+use Rattle.gorsepetal.specs.Calls.{confirmAnswer, lengthInForce, newestOf, feedAnswer, feedState, Fed}
+use Rattle.gorsepetal.specs.EventFiles.{handed, readState}
+use Rattle.gorsepetal.proofs.EventCases.{Hands, nothing, a-frame, hands, handed-bytes}
 use Rattle.claims.specs.GivenBack.{Keepable}
 use Rattle.claims.specs.Frames.{isKept, IsKept}
-use Rattle.claims.specs.Demand1.{Call, proposing, confirming, reading-back, deciding, feeding, Logged, freshRelay, next, afterCalls}
-use Rattle.claims.specs.Feeding.{framesWith, framesAfter, oneAfterAnother, FedBytes, AllBytes, Heard, FirmwareHears, HasKept, fresh, proposed, confirmed, refused, kept, not-kept, other, HearsOverHistories, PlaceFalls}
+use Rattle.claims.specs.Demand1.{Call, proposing, confirming, reading-back, deciding, feeding, reading-events, Logged, freshRelay, next, afterCalls}
+use Rattle.claims.specs.Feeding.{framesFed, framesWith, framesAfter, oneAfterAnother, FedBytes, AllBytes, Heard, FirmwareHears, HearsByEvents, HasKept, fresh, proposed, confirmed, refused, kept, not-kept, other, HearsOverHistories, PlaceFalls}
 use Rattle.claims.proofs.Parts.{same-window}
 use Rattle.claims.proofs.Relay.{propose-left, confirm-left}
 use Rattle.claims.proofs.Settings.{refused-confirmation}
-use Rattle.claims.proofs.Frames.{keeps-done, few, was-full, early-answer, full-answer, feed-answers, row-4, four, kept-exactly, else-nothing-kept, refused-feed, fed-as-decided}
+use Rattle.claims.proofs.Frames.{keeps-done, few, was-full, early-answer, full-answer, feed-answers, row-4, four, kept-exactly, else-nothing-kept, refused-feed, fed-as-decided, read-is-fed}
 use Rattle.claims.proofs.Unmoved.{feed-leaves-settings, entries-leave-window}
 
 -- ---- lists of frames
@@ -251,6 +253,17 @@ kept-next p fs (feeding f out) b h = by-test (isKept (givenBack (feedAnswer (p .
     by-test : (x : Bool) → isKept (givenBack (feedAnswer (p .state) f out)) ≡ x → HasKept (cond x (fs ++ (f ∷ [])) fs) (next p (feeding f out) .state)
     by-test true t = kept {f = f} {out = out} h b (record { given = refl; state = refl; buffer = refl }) t
     by-test false t = not-kept {f = f} {out = out} h (record { given = refl; state = refl; buffer = refl }) (λ k. false≢true (sym t ∙ k))
+kept-next p fs (reading-events r q out) b h = by-hands (hands (p .state) r q out)
+  where
+    by-test : (f : List ℕ) → Every Byte f → (x : Bool) → isKept (givenBack (feedAnswer (p .state) f out)) ≡ x → HasKept (cond x (fs ++ (f ∷ [])) fs) (feedState (p .state) f out)
+    by-test f bytes true t = kept {f = f} {out = out} h bytes (record { given = refl; state = refl; buffer = refl }) t
+    by-test f bytes false t = not-kept {f = f} {out = out} h (record { given = refl; state = refl; buffer = refl }) (λ k. false≢true (sym t ∙ k))
+
+    by-hands : Hands (p .state) r q out → HasKept (framesFed (p .state) out fs (handed (p .state) r q)) (readState (p .state) r q out)
+    by-hands (nothing e t o) = subst₂ (λ (gs : List (List ℕ)) (s : List ℕ). HasKept (framesFed (p .state) out fs gs) s) (sym e) (sym t) h
+    by-hands (a-frame f e a t o) =
+        subst₂ (λ (gs : List (List ℕ)) (s : List ℕ). HasKept (framesFed (p .state) out fs gs) s) (sym e) (sym t)
+        (by-test f (handed-bytes (p .state) r q f (b .0) (b .1) e) (isKept (givenBack (feedAnswer (p .state) f out))) refl)
 
 kept-after : (p : Logged) (fs : List (List ℕ)) (cs : List Call) → AllBytes cs → HasKept fs (p .state) → HasKept (framesAfter p fs cs) (afterCalls p cs .state)
 kept-after p fs [] b h = h
@@ -262,3 +275,8 @@ has-kept cs b = kept-after freshRelay [] cs b fresh
 pub firmware-hears : FirmwareHears
 firmware-hears cs f out n s₁ out₁ b bytes c is-kept =
     hears-over-histories (framesAfter freshRelay [] cs) (afterCalls freshRelay cs .state) f out n s₁ out₁ (has-kept cs b) bytes c is-kept
+
+pub hears-by-events : HearsByEvents
+hears-by-events cs r p out f n s₁ r₁ out₁ b hr hp c e is-kept =
+    let s = afterCalls freshRelay cs .state in
+    firmware-hears cs f out n s₁ out₁ b (handed-bytes s r p f hr hp e) (read-is-fed s r p out f n s₁ r₁ out₁ c e) is-kept

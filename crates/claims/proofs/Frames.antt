@@ -1,7 +1,7 @@
 -- One frame that is fed: each number comes in its row's condition alone, and what follows of what is kept and of what is written.
 use Prim.Native.Nat.{ℕ, _+_, _*_, _≤_, _<_}
 use mathlib.Core.Path.{_≡_, refl, sym, ap, ap₂, _∙_}
-use mathlib.Core.List.{List}
+use mathlib.Core.List.{List, [], _∷_}
 use mathlib.Core.Bool.{Bool, true, false, cond, false≢true}
 use native.Mathlib.Omega.{arith}
 use borrow.Author.Tests.{eq-eqb, ne-eqb, le-leb, lt-leb, eqb-true, eqb-false, leb-true, leb-false}
@@ -27,11 +27,12 @@ use Rattle.decision.specs.Decision.{decisionLength}
 use Rattle.decision.specs.Decide.{ofFound, written}
 use Rattle.feed.specs.Feed.{numbersOfFrame, fitsFrame, withFrame, withKept}
 use Rattle.gorsepetal.specs.State.{stateLength, windowOffset, settingsOf, windowOf}
-use Rattle.gorsepetal.specs.Calls.{isRelay, verdict, lengthInForce, fitsBytes, decideAnswer, feedKeeps, newestOf, feedAnswer}
+use Rattle.gorsepetal.specs.Calls.{isRelay, verdict, lengthInForce, fitsBytes, decideAnswer, feedKeeps, newestOf, feedAnswer, Fed}
+use Rattle.gorsepetal.proofs.EventCases.{Hands, nothing, a-frame, hands}
 use Rattle.gorsepetal.proofs.Good.{in-range}
 use Rattle.claims.specs.GivenBack.{Keepable, FeedRow, FeedAnswers}
 use Rattle.claims.specs.GivenBack as row
-use Rattle.claims.specs.Frames.{IsKept, KeptExactly, ElseNothingKept, RefusedFeed, FedAsDecided, MissingInFrames}
+use Rattle.claims.specs.Frames.{IsKept, KeptExactly, ElseNothingKept, RefusedFeed, FedAsDecided, MissingInFrames, ReadIsFed, ElseUnfed}
 use Rattle.claims.proofs.GivenBack.{both, relay, no-relay, accepted, not-accepted, refused}
 
 module _ (s f out : List ℕ) where
@@ -199,3 +200,22 @@ row-4 s f out n k (row.FeedRow.done h enough none) z = absurd (omega arith)
 pub missing-in-frames : MissingInFrames
 missing-in-frames s f out g c s₁ out₁ l d =
     first-in-order (numbersOfFrame (settingsOf s .force)) (newestOf s f) g c l (row-4 s f out _ _ (feed-answers s f out _ s₁ out₁ d _ .0 refl) refl .1)
+
+-- ---- a piece of an event file
+
+pub read-is-fed : ReadIsFed
+read-is-fed s r p out f n s₁ r₁ out₁ c h = by-hands (hands s r p out)
+  where
+    by-hands : Hands s r p out → Fed s f out n s₁ out₁
+    by-hands (nothing e t o) = let none = sym e ∙ h in let z : _≡_ {A = ℕ} 0 1 = cc in absurd (omega arith)
+    by-hands (a-frame g e a t o) =
+        let one : g ∷ [] ≡ f ∷ [] = sym e ∙ h in
+        let same : g ≡ f = cc in
+        rw (← same) (record { given = c .given ∙ ap givenBack a; state = c .state ∙ t; buffer = c .buffer ∙ o })
+
+pub else-unfed : ElseUnfed
+else-unfed s r p out n s₁ r₁ out₁ c h = by-hands (hands s r p out)
+  where
+    by-hands : Hands s r p out → (s₁ ≡ s) × (out₁ ≡ out)
+    by-hands (nothing e t o) = (c .state ∙ t, c .buffer ∙ o)
+    by-hands (a-frame g e a t o) = let one = sym e ∙ h in let z : _≡_ {A = ℕ} 0 1 = cc in absurd (omega arith)

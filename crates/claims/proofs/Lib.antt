@@ -19,4 +19,3 @@ pub mod HandChecks
 pub mod Worked
 pub mod WrongRelays
 pub mod Underneath
-pub mod Reader

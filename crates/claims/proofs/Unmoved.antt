@@ -23,8 +23,9 @@ use Rattle.decision.specs.Decide.{written}
 use Rattle.feed.specs.Feed.{numbersOfFrame, withFrame, withKept}
 use Rattle.gorsepetal.specs.State.{stateLength, windowOffset, settingsOf, withSettings, windowOf, emptied}
 use Rattle.gorsepetal.specs.Calls.{verdict, standing, confirmedPair, readBackAnswer, readBackOut, decideAnswer, decideOut, fitsBytes, feedKeeps, Confirmed}
+use Rattle.gorsepetal.proofs.EventCases.{Hands, nothing, a-frame, hands}
 use Rattle.claims.specs.GivenBack.{Keepable}
-use Rattle.claims.specs.Unmoved.{pairPart, windowPart, FeedLeavesSettings, EntriesLeaveWindow, WindowDoesNotMatter}
+use Rattle.claims.specs.Unmoved.{pairPart, windowPart, FeedLeavesSettings, ReadLeavesSettings, EntriesLeaveWindow, WindowDoesNotMatter}
 use Rattle.claims.proofs.Parts.{pair-stays, over-window-length, settings-stay, part-stays}
 use Rattle.claims.proofs.Relay.{sized, paired, propose-left, confirm-left}
 use Rattle.claims.proofs.Frames.{keepable, full, few}
@@ -53,6 +54,15 @@ feed-leaves-settings s f out n s₁ out₁ l c = by-test (isDone (feedKeeps s f 
         let room = short s f out (keepable s f out t) in
         (ap length e ∙ over-window-length s x l room, ap settingsOf e ∙ settings-stay s x l room, ap pairPart e ∙ pair-stays s x l)
     by-test false t e = (ap length e ∙ l, ap settingsOf e, ap pairPart e)
+
+-- a piece of an event file hands one on, or leaves the state
+pub read-leaves-settings : ReadLeavesSettings
+read-leaves-settings s r p out n s₁ r₁ out₁ l c = by-hands (hands s r p out)
+  where
+    by-hands : Hands s r p out → (length s₁ ≡ stateLength) × (settingsOf s₁ ≡ settingsOf s) × (pairPart s₁ ≡ pairPart s)
+    by-hands (nothing e t o) = let k = c .state ∙ t in (ap length k ∙ l, ap settingsOf k, ap pairPart k)
+    by-hands (a-frame f e a t o) =
+        feed-leaves-settings s f out n s₁ out₁ l (record { given = c .given ∙ ap givenBack a; state = c .state ∙ t; buffer = c .buffer ∙ o })
 
 -- ---- an entry leaves the window
 

@@ -13,12 +13,13 @@ use Rattle.decision.specs.Decision.{decisionLength, decision}
 use Rattle.gorsepetal.specs.State.{settingsOf}
 use Rattle.gorsepetal.specs.Calls.{ReadBack, Decided}
 use Rattle.claims.specs.Demand1.{freshRelay, afterCalls}
-use Rattle.claims.specs.WhichRule.{ByARecordSaidTwice, WhichRule, WhichRuleOverHistories, WhichRuleByFeeding, WhichRecord, WhichRecordOverHistories, SaidTwiceReadsBack, SaidTwiceDecides, SaidTwiceDecidesByFeeding}
+use Rattle.claims.specs.WhichRule.{ByARecordSaidTwice, WhichRule, WhichRuleOverHistories, WhichRuleByFeeding, WhichRuleByEvents, WhichRecord, WhichRecordOverHistories, SaidTwiceReadsBack, SaidTwiceDecides, SaidTwiceDecidesByFeeding}
 use Rattle.claims.proofs.Demand1.{over-histories, history-of}
 use Rattle.claims.specs.Feeding.{framesAfter, oneAfterAnother}
 use Rattle.claims.specs.GivenBack.{Keepable}
 use Rattle.claims.specs.GivenBack as row
-use Rattle.claims.proofs.Frames.{kept-exactly}
+use Rattle.gorsepetal.proofs.EventCases.{handed-bytes}
+use Rattle.claims.proofs.Frames.{kept-exactly, read-is-fed}
 use Rattle.claims.proofs.Feeding.{long, holds, has-kept, firmware-hears}
 use Rattle.claims.proofs.Decisions.{relay, in-force, at-front}
 use Rattle.claims.proofs.GivenBack.{read-back-answers, decide-answers}
@@ -75,6 +76,11 @@ which-rule-by-feeding cs f out s₁ after all bytes c = by-test (leb frames (len
     by-test : (x : Bool) → leb frames (length fs) ≡ x → ByARecordSaidTwice (afterCalls freshRelay cs .log) (oneAfterAnother fs) out after
     by-test true t = which-rule cs (oneAfterAnother fs) out after (firmware-hears cs f out 0 s₁ after all bytes c refl .decided (leb-true frames (length fs) t))
     by-test false t = let ten = firmware-hears cs f out 0 s₁ after all bytes c refl .early (leb-false frames (length fs) t) .0 in absurd (omega arith)
+
+pub which-rule-by-events : WhichRuleByEvents
+which-rule-by-events cs r p out f s₁ r₁ after all hr hp c e =
+    let s = afterCalls freshRelay cs .state in
+    which-rule-by-feeding cs f out s₁ after all (handed-bytes s r p f hr hp e) (read-is-fed s r p out f 0 s₁ r₁ after c e)
 
 pub said-twice-decides-by-feeding : SaidTwiceDecidesByFeeding
 said-twice-decides-by-feeding cs r f out n s₁ after all bytes said c fits room many none =

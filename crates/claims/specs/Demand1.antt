@@ -9,14 +9,16 @@ use Rattle.answers.specs.Answers.{givenBack}
 use Rattle.entry.specs.Log.{propose, confirm, Log, start, _▷_, SaidTwice}
 use Rattle.gorsepetal.specs.State.{freshState, settingsOf, stateLength}
 use Rattle.gorsepetal.specs.Calls.{GoodRecord, proposeAnswer, proposeState, confirmAnswer, confirmState, feedState, Proposed, Confirmed}
+use Rattle.gorsepetal.specs.EventFiles.{readState}
 
--- A call, with the bytes that are lent beside the relay.
+-- A call that lends the relay, with the bytes that are lent beside it. (The other calls for event files lend none.)
 pub data Call : Type 0 where
   proposing : List ℕ → Call
   confirming : List ℕ → Call
   reading-back : (out : List ℕ) → Call
   deciding : (samples out : List ℕ) → Call
   feeding : (frame out : List ℕ) → Call
+  reading-events : (reader piece out : List ℕ) → Call
 
 -- Where calls lead: the log of the entries, each with the number given back, and the relay's state.
 pub record Logged : Type 0 where
@@ -34,6 +36,7 @@ next r (confirming e) =
 next r (reading-back out) = r
 next r (deciding samples out) = r
 next r (feeding frame out) = record { log = r .log; state = feedState (r .state) frame out }
+next r (reading-events reader piece out) = record { log = r .log; state = readState (r .state) reader piece out }
 
 -- All calls of a list, the first one first.
 abbrev pub afterCalls : Logged → List Call → Logged
@@ -55,7 +58,7 @@ pub data History : Log → List ℕ → Type 0 where
   proposed : {l : Log} {s e after : List ℕ} {n : ℕ} → History l s → Proposed s e n after → History (l ▷ propose e n) after
   confirmed : {l : Log} {s e after : List ℕ} {n : ℕ} → History l s → Confirmed s e n after → History (l ▷ confirm e n) after
   -- a call that is no entry to the settings: read-back and decide, which by their contracts leave the state as it was, feed (`FeedLeavesSettings`),
-  -- and any that changes only other parts of it
+  -- a piece of an event file (`ReadLeavesSettings`), and any that changes only other parts of it
   other : {l : Log} {s after : List ℕ} → History l s → length after ≡ stateLength → settingsOf after ≡ settingsOf s → History l after
 
 abbrev pub OverHistories : Type 0

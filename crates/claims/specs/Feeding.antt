@@ -13,8 +13,14 @@ use Rattle.stream.specs.History.{newest}
 use Rattle.feed.specs.Feed.{numbersOfFrame}
 use Rattle.gorsepetal.specs.State.{stateLength, freshState, settingsOf, windowOf}
 use Rattle.gorsepetal.specs.Calls.{confirmAnswer, feedAnswer, Proposed, Confirmed, Decided, Fed}
+use Rattle.gorsepetal.specs.EventFiles.{handed, EventsRead}
 use Rattle.claims.specs.Frames.{isKept, IsKept}
-use Rattle.claims.specs.Demand1.{Call, proposing, confirming, reading-back, deciding, feeding, Logged, freshRelay, next, afterCalls}
+use Rattle.claims.specs.Demand1.{Call, proposing, confirming, reading-back, deciding, feeding, reading-events, Logged, freshRelay, next, afterCalls}
+
+-- A frame that feed is handed, if there is one, and keeps.
+abbrev pub framesFed : (s out : List ℕ) (fs gs : List (List ℕ)) → List (List ℕ)
+framesFed s out fs [] = fs
+framesFed s out fs (f ∷ gs) = cond (isKept (givenBack (feedAnswer s f out))) (fs ++ (f ∷ [])) fs
 
 -- The frames kept since the last confirmation answered 0, the oldest first: fs before a call to a relay with state s, and this after it.
 abbrev pub framesWith : List ℕ → List (List ℕ) → Call → List (List ℕ)
@@ -22,7 +28,8 @@ framesWith s fs (proposing e) = fs
 framesWith s fs (confirming e) = cond (eqb (givenBack (confirmAnswer s e)) 0) [] fs
 framesWith s fs (reading-back out) = fs
 framesWith s fs (deciding samples out) = fs
-framesWith s fs (feeding f out) = cond (isKept (givenBack (feedAnswer s f out))) (fs ++ (f ∷ [])) fs
+framesWith s fs (feeding f out) = framesFed s out fs (f ∷ [])
+framesWith s fs (reading-events r p out) = framesFed s out fs (handed s r p)
 
 -- And after all calls of a list.
 abbrev pub framesAfter : Logged → List (List ℕ) → List Call → List (List ℕ)
@@ -40,6 +47,7 @@ FedBytes (confirming e) = Unit {0}
 FedBytes (reading-back out) = Unit {0}
 FedBytes (deciding samples out) = Unit {0}
 FedBytes (feeding f out) = Every Byte f
+FedBytes (reading-events r p out) = Every Byte r × Every Byte p
 
 abbrev pub AllBytes : List Call → Type 0
 AllBytes cs = Every FedBytes cs
@@ -55,7 +63,13 @@ FirmwareHears =
     (cs : List Call) (f out : List ℕ) (n : ℕ) (s₁ out₁ : List ℕ) → AllBytes cs → Every Byte f → let s = afterCalls freshRelay cs .state in
     Fed s f out n s₁ out₁ → IsKept n → Heard (framesAfter freshRelay [] cs ++ (f ∷ [])) s out n out₁
 
--- The same by the calls' claims alone. A relay that has kept the frames fs since the last confirmation answered 0:
+-- And so it is with a record of an event file (document 02, CR 5) that a piece makes whole, f being its frame.
+abbrev pub HearsByEvents : Type 0
+HearsByEvents =
+    (cs : List Call) (r p out f : List ℕ) (n : ℕ) (s₁ r₁ out₁ : List ℕ) → AllBytes cs → Every Byte r → Every Byte p → let s = afterCalls freshRelay cs .state in
+    EventsRead s r p out n s₁ r₁ out₁ → handed s r p ≡ f ∷ [] → IsKept n → Heard (framesAfter freshRelay [] cs ++ (f ∷ [])) s out n out₁
+
+-- The same by the calls' claims alone. (A piece of an event file is one of these calls: `ReadIsFed`, `ElseUnfed`.) A relay that has kept the frames fs since the last confirmation answered 0:
 pub data HasKept : List (List ℕ) → List ℕ → Type 0 where
   fresh : HasKept [] freshState
   proposed : {fs : List (List ℕ)} {s e after : List ℕ} {n : ℕ} → HasKept fs s → Proposed s e n after → HasKept fs after

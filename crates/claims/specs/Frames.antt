@@ -1,7 +1,7 @@
 -- Document 02, CR 1: what one frame that is fed is answered and leaves, in every state.
 use Prim.Native.Nat.{ℕ, _+_, _*_, _≤_, _<_}
 use mathlib.Core.Path.{_≡_}
-use mathlib.Core.List.{List}
+use mathlib.Core.List.{List, [], _∷_}
 use mathlib.Core.Bool.{Bool, true, _||_}
 use lib.Dec.{eqb}
 use lib.ListN.{length}
@@ -12,6 +12,7 @@ use Rattle.samples.specs.Order.{FirstInOrder}
 use Rattle.feed.specs.Feed.{numbersOfFrame}
 use Rattle.gorsepetal.specs.State.{settingsOf, windowOf}
 use Rattle.gorsepetal.specs.Calls.{lengthInForce, newestOf, Decided, Fed}
+use Rattle.gorsepetal.specs.EventFiles.{handed, EventsRead}
 use Rattle.claims.specs.GivenBack.{Keepable}
 
 -- A frame was kept: it was answered 0, 4 or 10.
@@ -44,3 +45,14 @@ abbrev pub MissingInFrames : Type 0
 MissingInFrames =
     (s f out : List ℕ) (g c : ℕ) (s₁ out₁ : List ℕ) → let m = numbersOfFrame (settingsOf s .force) in
     c < m → Fed s f out (256 * (g * m + c) + 4) s₁ out₁ → FirstInOrder m (newestOf s f) g c
+
+-- Document 02, CR 5, "The reader feeds CR 1": a piece of an event file that makes a record whole is a frame fed by hand, with the same number, place,
+-- state and buffer;
+abbrev pub ReadIsFed : Type 0
+ReadIsFed =
+    (s r p out f : List ℕ) (n : ℕ) (s₁ r₁ out₁ : List ℕ) → EventsRead s r p out n s₁ r₁ out₁ → handed s r p ≡ f ∷ [] → Fed s f out n s₁ out₁
+
+-- and any other piece leaves the relay and the buffer.
+abbrev pub ElseUnfed : Type 0
+ElseUnfed =
+    (s r p out : List ℕ) (n : ℕ) (s₁ r₁ out₁ : List ℕ) → EventsRead s r p out n s₁ r₁ out₁ → handed s r p ≡ [] → (s₁ ≡ s) × (out₁ ≡ out)

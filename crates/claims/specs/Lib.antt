@@ -17,4 +17,3 @@ pub mod HandChecks
 pub mod Worked
 pub mod WrongRelays
 pub mod Underneath
-pub mod Reader

@@ -1,4 +1,5 @@
--- What document 02's CR 1 does not move: a frame leaves the records, the older calls leave the window, and they answer as before it was there.
+-- What document 02's CR 1 and CR 5 do not move: a frame leaves the records, and so does a piece of an event file; the older calls leave the window,
+-- and they answer as before it was there.
 use Prim.Native.Nat.{ℕ}
 use mathlib.Core.Path.{_≡_}
 use mathlib.Core.List.{List}
@@ -6,6 +7,7 @@ use lib.ListN.{length, take, drop, replicate}
 use Rattle.stream.specs.Stored.{storedLength}
 use Rattle.gorsepetal.specs.State.{stateLength, windowOffset, settingsOf}
 use Rattle.gorsepetal.specs.Calls.{Proposed, Confirmed, ReadBack, Decided, Fed}
+use Rattle.gorsepetal.specs.EventFiles.{EventsRead}
 
 -- The two parts of a relay's state: the pair of records, and the window.
 abbrev pub pairPart : List ℕ → List ℕ
@@ -18,6 +20,12 @@ windowPart s = drop windowOffset s
 abbrev pub FeedLeavesSettings : Type 0
 FeedLeavesSettings =
     (s f out : List ℕ) (n : ℕ) (s₁ out₁ : List ℕ) → length s ≡ stateLength → Fed s f out n s₁ out₁
+    → (length s₁ ≡ stateLength) × (settingsOf s₁ ≡ settingsOf s) × (pairPart s₁ ≡ pairPart s)
+
+-- And so does a piece of an event file (document 02, CR 5), whatever it comes to.
+abbrev pub ReadLeavesSettings : Type 0
+ReadLeavesSettings =
+    (s r p out : List ℕ) (n : ℕ) (s₁ r₁ out₁ : List ℕ) → length s ≡ stateLength → EventsRead s r p out n s₁ r₁ out₁
     → (length s₁ ≡ stateLength) × (settingsOf s₁ ≡ settingsOf s) × (pairPart s₁ ≡ pairPart s)
 
 -- An entry leaves the window, but a confirmation answered 0 empties it: no frame, and all zero bytes.

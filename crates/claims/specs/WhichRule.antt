@@ -12,6 +12,7 @@ use Rattle.entry.specs.Pair.{recordLength}
 use Rattle.entry.specs.Log.{Log, SaidTwice}
 use Rattle.decision.specs.Decision.{decisionLength, decision}
 use Rattle.gorsepetal.specs.Calls.{ReadBack, Decided, Fed}
+use Rattle.gorsepetal.specs.EventFiles.{handed, EventsRead}
 use Rattle.claims.specs.Demand1.{Call, freshRelay, afterCalls, History}
 use Rattle.claims.specs.Feeding.{framesAfter, oneAfterAnother, AllBytes}
 
@@ -40,6 +41,13 @@ WhichRuleOverHistories =
 abbrev pub WhichRuleByFeeding : Type 0
 WhichRuleByFeeding =
     (cs : List Call) (f out s₁ after : List ℕ) → AllBytes cs → Every Byte f → Fed (afterCalls freshRelay cs .state) f out 0 s₁ after
+    → ByARecordSaidTwice (afterCalls freshRelay cs .log) (oneAfterAnother (framesAfter freshRelay [] cs ++ (f ∷ []))) out after
+
+-- And each piece of an event file answered 0 that made a record whole.
+abbrev pub WhichRuleByEvents : Type 0
+WhichRuleByEvents =
+    (cs : List Call) (r p out f s₁ r₁ after : List ℕ) → AllBytes cs → Every Byte r → Every Byte p → EventsRead (afterCalls freshRelay cs .state) r p out 0 s₁ r₁ after
+    → handed (afterCalls freshRelay cs .state) r p ≡ f ∷ []
     → ByARecordSaidTwice (afterCalls freshRelay cs .log) (oneAfterAnother (framesAfter freshRelay [] cs ++ (f ∷ []))) out after
 
 -- The buffer after a read-back holds a record that by the log l was said twice, and its later bytes stayed.

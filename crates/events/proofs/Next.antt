@@ -227,6 +227,7 @@ pub record Shows (s piece : List ℕ) (sh : Shape) (g : List ℕ) : Type 0 where
   pub frame : take (2 * channels (sh .ends)) (drop 12 (readLeft s piece)) ≡ frameIn (sh .ends) g
   pub end : frameEnd (readLeft s piece) ≡ 12 + 2 * channels (sh .ends)
   pub long : length g ≡ recordLength sh
+  pub joined : g ≡ handIn s ++ take (wanted (readerOf s)) piece
 
 whole-of :
     (a b : Bool) (i : ℕ) (sh₀ : Shape) (g₀ : List ℕ) (sh : Shape) (g : List ℕ) → cond a (Stopped (OtherNumber i)) (cond b (Whole sh₀ g₀) More) ≡ Whole sh g →
@@ -257,5 +258,6 @@ read-shows s piece sh g l o = by-test (isReading s) refl
               f-frame s p l y room whole ∙ ap₂ frameIn same (w .3);
           end = ap frameEnd left ∙ f-end s p l y room whole ∙ ap (λ (n : ℕ). 12 + 2 * channels n) same;
           long = rw (w .2, ← w .3) (omega (arith, g-length s p l y room, whole, room));
+          joined = sym (w .3);
         }
     by-test false y = let stopped = rw (ended-is s y) at o in let z : _≡_ {A = ℕ} 0 1 = cc in absurd (omega arith)

@@ -11,7 +11,7 @@ use lib.ListN.{length, take, drop, length-append, length-take, length-drop, take
 use lib.Seq.{take-all, take-take}
 use Rattle.records.specs.Record.{Shape, wordAt, recordLength, numberIn}
 use Rattle.files.specs.Reader.{Reader, Ended, Reading, Ending, OtherNumber, Outcome, Stopped, More, Whole, wanted, wrongNumber, outcome, after, inHand, readNext, Fits}
-use Rattle.files.specs.Caller.{Caller, Hears, hears, callOn, call, handTurns, hand, together}
+use Rattle.files.specs.Caller.{Caller, Hears, hears, callOn, call, wants, handTurns, handAll, hand, together}
 use Rattle.files.specs.Cutting.{CutAnywhere, AlwaysWants}
 
 -- a record has at least its number and its time
@@ -82,7 +82,7 @@ module _ {S I : Type 0} (does : Hears S I) where
   ended-bytes s hs e [] = refl
   ended-bytes s hs e (b ∷ bs) = ended-bytes s hs e bs
 
-  ended-turns : (s : S) (hs : List I) (e : Ending) (n : ℕ) (bs : List ℕ) → handTurns does n (ended s hs e) bs ≡ ended s hs e
+  ended-turns : (s : S) (hs : List I) (e : Ending) (n : ℕ) (bs : List ℕ) → handTurns wants (call does) n (ended s hs e) bs ≡ ended s hs e
   unfolding handTurns
   ended-turns s hs e zero bs = refl
   ended-turns s hs e (suc n) [] = refl
@@ -148,8 +148,8 @@ module _ {S I : Type 0} (does : Hears S I) where
   -- a piece handed over until all of it is taken: a turn, and then the rest
   more-turns :
       (n : ℕ) (s : S) (hs : List I) (r : Reader) (b : ℕ) (p : List ℕ) → Fits r → length p ≤ n →
-      ((c : Caller S I) (q : List ℕ) → Fits (c .reader) → length q ≤ n → handTurns does n c q ≡ bytewise c q) →
-      handTurns does n (callOn does s hs r (b ∷ p)) (drop (wanted r) (b ∷ p)) ≡ bytewise (record { state = s; reader = r; heard = hs }) (b ∷ p)
+      ((c : Caller S I) (q : List ℕ) → Fits (c .reader) → length q ≤ n → handTurns wants (call does) n c q ≡ bytewise c q) →
+      handTurns wants (call does) n (callOn does s hs r (b ∷ p)) (drop (wanted r) (b ∷ p)) ≡ bytewise (record { state = s; reader = r; heard = hs }) (b ∷ p)
   more-turns n s hs (Ended e) b p f l on = ended-turns s hs e n (b ∷ p) ∙ sym (ended-bytes s hs e (b ∷ p))
   more-turns n s hs (Reading sh i h) b p f l on =
       let c : Caller S I = reading s hs sh i h in
@@ -159,7 +159,7 @@ module _ {S I : Type 0} (does : Hears S I) where
       sym (bytewise-append c (take w (b ∷ p)) (drop w (b ∷ p))) ∙
       ap (bytewise c) (take-append-drop w (b ∷ p))
 
-  turns : (n : ℕ) (c : Caller S I) (p : List ℕ) → Fits (c .reader) → length p ≤ n → handTurns does n c p ≡ bytewise c p
+  turns : (n : ℕ) (c : Caller S I) (p : List ℕ) → Fits (c .reader) → length p ≤ n → handTurns wants (call does) n c p ≡ bytewise c p
   unfolding handTurns
   turns zero c [] f l = bytewise-none c
   turns zero c (b ∷ p) f l = absurd (omega arith)
@@ -173,7 +173,7 @@ module _ {S I : Type 0} (does : Hears S I) where
 
   -- however a file is cut, it is as if byte by byte
   pub pieces : (ps : List (List ℕ)) (c : Caller S I) → Fits (c .reader) → hand does c ps ≡ bytewise c (together ps)
-  unfolding hand together
+  unfolding handAll together
   pieces [] c f = bytewise-none c
   pieces (p ∷ ps) c f =
       ap (λ (d : Caller S I). hand does d ps) (turns (length p) c p f (omega arith)) ∙

@@ -3,3 +3,4 @@ pub mod Cut
 pub mod Joined
 pub mod ByHand
 pub mod Known
+pub mod Follow

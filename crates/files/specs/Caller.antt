@@ -33,16 +33,24 @@ module _ {S I : Type 0} (does : Hears S I) where
   abbrev pub call : Caller S I → List ℕ → Caller S I
   call c piece = callOn (c .state) (c .heard) (c .reader) piece
 
-  -- A piece handed over, and what is left of it again; in as many turns as it has bytes all of it is taken.
-  unfoldable pub handTurns : ℕ → Caller S I → List ℕ → Caller S I
+-- Whoever calls, with what is wanted and one call given: a piece handed over, and what is left of it again. In as many turns as it has bytes
+-- all of it is taken.
+module _ {C : Type 0} (wants : C → ℕ) (calls : C → List ℕ → C) where
+  unfoldable pub handTurns : ℕ → C → List ℕ → C
   handTurns zero c piece = c
   handTurns (suc n) c [] = c
-  handTurns (suc n) c (b ∷ piece) = handTurns n (call c (b ∷ piece)) (drop (wanted (c .reader)) (b ∷ piece))
+  handTurns (suc n) c (b ∷ piece) = handTurns n (calls c (b ∷ piece)) (drop (wants c) (b ∷ piece))
 
   -- A file in pieces.
-  unfoldable pub hand : Caller S I → List (List ℕ) → Caller S I
-  hand c [] = c
-  hand c (p ∷ ps) = hand (handTurns (length p) c p) ps
+  unfoldable pub handAll : C → List (List ℕ) → C
+  handAll c [] = c
+  handAll c (p ∷ ps) = handAll (handTurns (length p) c p) ps
+
+abbrev pub wants : {S I : Type 0} → Caller S I → ℕ
+wants c = wanted (c .reader)
+
+abbrev pub hand : {S I : Type 0} → Hears S I → Caller S I → List (List ℕ) → Caller S I
+hand does c ps = handAll wants (call does) c ps
 
 -- The caller at the start of a reading.
 abbrev pub starts : {S I : Type 0} → S → Reader → Caller S I

@@ -23,7 +23,7 @@ pub record Promises (asked promised claim : Type 0) : Type 0 where
   pub promise : promised → claim
   pub no-more : claim → promised
 
-the-claim : {claim : Type 0} → Promises (Unit {0}) claim claim
+pub the-claim : {claim : Type 0} → Promises (Unit {0}) claim claim
 the-claim = record { asks-nothing = tt; promise = λ p. p; no-more = λ p. p }
 
 -- ---- what C calls: of the lent slices at the call and after it, and of the number given back

@@ -1,25 +1,29 @@
 -- Each way out of the calls that read and write event files, on plain lists.
 use Prim.Native.Nat.{ℕ, _+_, _*_, _-_}
 use mathlib.Core.Path.{_≡_, refl, sym, ap, _∙_}
-use mathlib.Core.List.{List}
+use mathlib.Core.List.{List, [], _∷_, _++_}
 use mathlib.Core.Bool.{Bool, true, false}
 use native.Mathlib.Omega.{arith}
-use borrow.Author.Tests.{eq-eqb, ne-eqb}
+use borrow.Author.Tests.{eq-eqb, ne-eqb, eqb-true}
 use lib.ListN.{length, take, drop}
 use Rattle.answers.specs.declared.Answer.{Answer}
 use Rattle.answers.specs.declared.Answer.the-variants.{Done, NoRelay}
 use Rattle.answers.specs.Answers.{givenBack}
+use Rattle.lent.specs.Bytes.{Every, Byte}
+use Rattle.lent.proofs.Every.{every-append, every-take, every-drop}
 use Rattle.samples.specs.Window.{channels}
 use Rattle.records.specs.Record.{Shape, frameIn}
 use Rattle.records.specs.Writer.{Wrote}
-use Rattle.files.specs.Reader.{Ending, answerOf, Outcome, Stopped, More, Whole}
-use Rattle.events.specs.Slice.{readerLength, told, Opened, AtEnd, Read, readLeft, frameEnd}
+use Rattle.records.proofs.Swapped.{swapped-bytes}
+use Rattle.records.proofs.Writing.{both}
+use Rattle.files.specs.Reader.{Ending, answerOf, wanted, Outcome, Stopped, More, Whole}
+use Rattle.events.specs.Slice.{readerLength, handAt, heldIn, handIn, isReader, readerOf, told, Opened, AtEnd, Read, readLeft, frameEnd}
 use Rattle.events.specs.declared.Step.{Step}
 use Rattle.events.specs.declared.Step.the-variants as step
 use Rattle.events.proofs.Next.{read-shows}
 use Rattle.gorsepetal.specs.State.{stateLength}
-use Rattle.gorsepetal.specs.Calls.{Fed}
-use Rattle.gorsepetal.specs.EventFiles.{bothLent, pieceOutcome, EventsOpened, EventsRead, EventsEnded, EventsWritten}
+use Rattle.gorsepetal.specs.Calls.{isRelay, feedAnswer, feedState, feedOut, Fed}
+use Rattle.gorsepetal.specs.EventFiles.{bothLent, pieceOutcome, handed, readAnswer, readState, readOut, EventsOpened, EventsRead, EventsEnded, EventsWritten}
 
 -- ---- a call that hands on to one below, and gives its answer back
 
@@ -54,6 +58,44 @@ whole-by (Whole sh g) k = (sh, g, refl)
 
 pub both-lent : (s r : List ℕ) → length s ≡ stateLength → length r ≡ readerLength → bothLent s r ≡ true
 both-lent s r l m = rw (eq-eqb (length s) stateLength l, eq-eqb (length r) readerLength m)
+
+-- a piece hands nothing on, and leaves the relay and the buffer; or it hands a frame on, and all is as feed does it
+pub data Hands (s r p out : List ℕ) : Type 0 where
+  nothing : handed s r p ≡ [] → readState s r p out ≡ s → readOut s r p out ≡ out → Hands s r p out
+  a-frame :
+      (f : List ℕ) → handed s r p ≡ f ∷ [] → readAnswer s r p out ≡ feedAnswer s f out → readState s r p out ≡ feedState s f out
+      → readOut s r p out ≡ feedOut s f out → Hands s r p out
+
+pub hands : (s r p out : List ℕ) → Hands s r p out
+hands s r p out = by-test (bothLent s r) refl (pieceOutcome r p) refl
+  where
+    by-test : (b : Bool) → bothLent s r ≡ b → (o : Outcome) → pieceOutcome r p ≡ o → Hands s r p out
+    by-test false t o u = nothing (rw t) (rw t) (rw t)
+    by-test true t (Stopped e) u = nothing (rw (t, u)) (rw (t, u)) (rw (t, u))
+    by-test true t More u = nothing (rw (t, u)) (rw (t, u)) (rw (t, u))
+    by-test true t (Whole sh g) u = a-frame (frameIn (sh .ends) g) (rw (t, u)) (rw (t, u)) (rw (t, u)) (rw (t, u))
+
+-- a frame that is handed on is of bytes, where the reader and the piece are
+pub handed-bytes : (s r p f : List ℕ) → Every Byte r → Every Byte p → handed s r p ≡ f ∷ [] → Every Byte f
+handed-bytes s r p f hr hp e = by-test (bothLent s r) refl (pieceOutcome r p) refl
+  where
+    of-record : (sh : Shape) (g : List ℕ) → length r ≡ readerLength → pieceOutcome r p ≡ Whole sh g → Every Byte (frameIn (sh .ends) g)
+    of-record sh g l o =
+        let k = read-shows r p sh g l o in
+        let n : ℕ = wanted (readerOf r) in
+        let hand = every-take Byte (heldIn r) (drop handAt r) (every-drop Byte handAt r hr) in
+        let all : Every Byte (handIn r ++ take n p) = every-append Byte (handIn r) (take n p) hand (every-take Byte n p hp) in
+        swapped-bytes _ (every-take Byte (2 * channels (sh .ends)) (drop 8 g) (every-drop Byte 8 g (rw (k .joined) all)))
+
+    by-test : (b : Bool) → bothLent s r ≡ b → (o : Outcome) → pieceOutcome r p ≡ o → Every Byte f
+    by-test false t o u = let none = rw t at e in let z : _≡_ {A = ℕ} 0 1 = cc in absurd (omega arith)
+    by-test true t (Stopped x) u = let none = rw (t, u) at e in let z : _≡_ {A = ℕ} 0 1 = cc in absurd (omega arith)
+    by-test true t More u = let none = rw (t, u) at e in let z : _≡_ {A = ℕ} 0 1 = cc in absurd (omega arith)
+    by-test true t (Whole sh g) u =
+        let one : frameIn (sh .ends) g ∷ [] ≡ f ∷ [] = rw (t, u) at e in
+        let same : frameIn (sh .ends) g ≡ f = cc in
+        let l = eqb-true (length r) readerLength (both (isRelay s) (isReader r) t .1) in
+        rw (← same) (of-record sh g l u)
 
 -- the frame that the slice shows is the record's
 shown :

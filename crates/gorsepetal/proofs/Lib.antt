@@ -4,3 +4,4 @@ pub mod Cases
 pub mod Numbers
 pub mod EventCases
 pub mod Contracts
+pub mod EventContracts

@@ -2,7 +2,7 @@
 -- relay's state, r the reader's slice, p the piece that is lent.
 use Prim.Native.Nat.{ℕ}
 use mathlib.Core.Path.{_≡_}
-use mathlib.Core.List.{List}
+use mathlib.Core.List.{List, [], _∷_}
 use mathlib.Core.Bool.{Bool, cond, _&&_}
 use Rattle.answers.specs.declared.Answer.{Answer}
 use Rattle.answers.specs.declared.Answer.the-variants.{Done, NoRelay}
@@ -10,7 +10,7 @@ use Rattle.answers.specs.Answers.{givenBack}
 use Rattle.records.specs.Record.{narrow, frameIn}
 use Rattle.records.specs.Writer.{writeAnswer, writeOut}
 use Rattle.files.specs.Reader.{answerOf, opened, refusal, Outcome, Stopped, More, Whole, readOutcome, endAnswer}
-use Rattle.events.specs.Slice.{isReader, readerOf, openedBytes, readLeft, endLeft}
+use Rattle.events.specs.Slice.{isReader, readerOf, wantedIn, openedBytes, readLeft, endLeft}
 use Rattle.gorsepetal.specs.Calls.{isRelay, feedAnswer, feedState, feedOut}
 
 -- "The caller says how many ends and status channels there are." Refusals 17 and 13.
@@ -23,6 +23,10 @@ openLeft r ends status = cond (isReader r) (openedBytes ends status) r
 pub record EventsOpened (r : List ℕ) (ends status n : ℕ) (r₁ : List ℕ) : Type 0 where
   pub given : n ≡ givenBack (openAnswer r ends status)
   pub reader : r₁ ≡ openLeft r ends status
+
+-- How many bytes are missing to the end of the record being read: a count, and no answer of the table.
+pub record EventsWanted (r : List ℕ) (n : ℕ) : Type 0 where
+  pub count : n ≡ wantedIn r
 
 -- "The reader feeds CR 1." By what a piece comes to: a refusal that ended the reading; 0 for a piece that does not finish a record; and else what
 -- feed answers to the record's frame, and leaves.
@@ -65,6 +69,15 @@ pub record EventsRead (s r p out : List ℕ) (n : ℕ) (s₁ r₁ out₁ : List 
   pub state : s₁ ≡ readState s r p out
   pub reader : r₁ ≡ readReader s r p
   pub buffer : out₁ ≡ readOut s r p out
+
+-- The frame that a piece hands on to feed: none, or the record's.
+abbrev pub handedBy : Outcome → List (List ℕ)
+handedBy (Stopped e) = []
+handedBy More = []
+handedBy (Whole sh g) = frameIn (sh .ends) g ∷ []
+
+abbrev pub handed : (s r p : List ℕ) → List (List ℕ)
+handed s r p = cond (bothLent s r) (handedBy (pieceOutcome r p)) []
 
 -- Refusals 17 and 11, and that which ended the reading.
 abbrev pub closeAnswer : (r : List ℕ) → Answer

@@ -1,8 +1,6 @@
 // What C calls to read and to write event files (document 02, CR 5). The reader is a second lent state, beside the relay's own.
-ghost use mathlib.Core.Path.{_≡_};
-ghost use Rattle.events.specs.Slice.{wantedIn};
 ghost use Rattle.gorsepetal.specs.Calls.{Unchanged};
-ghost use Rattle.gorsepetal.specs.EventFiles.{EventsOpened, EventsRead, EventsEnded, EventsWritten};
+ghost use Rattle.gorsepetal.specs.EventFiles.{EventsOpened, EventsWanted, EventsRead, EventsEnded, EventsWritten};
 use answers::Answer;
 use events::Step;
 
@@ -17,7 +15,7 @@ pub extern "C" fn gorsepetal_events_open(reader: &mut [u8], ends: u64, status: u
 // How many bytes are missing to the end of the record being read; 0 where the reading has ended. It is a count and no answer.
 #[no_mangle]
 pub extern "C" fn gorsepetal_events_wanted(reader: &[u8]) -> u64
-    ensures { λ r. ⌜ (r ≡ wantedIn (now (reader .entry))) × Unchanged (now (reader .entry)) (now (reader .exit)) ⌝ }
+    ensures { λ r. ⌜ EventsWanted (now (reader .entry)) r × Unchanged (now (reader .entry)) (now (reader .exit)) ⌝ }
 {
     events::wanted(reader) as u64
 }

@@ -7,6 +7,7 @@ use native.Mathlib.Numerals.{add-one}
 use lib.ListN.{length, take, set, getD}
 use lib.Seq.{length-take-le, take-suc}
 use Rattle.lent.specs.Lent.{over}
+use Rattle.lent.specs.Bytes.{Every, Byte}
 use Rattle.lent.proofs.Over.{over-over, over-two}
 use Rattle.records.specs.Record.{swapped}
 
@@ -33,6 +34,12 @@ swapped-twice zero (x ∷ xs) l = absurd (omega arith)
 swapped-twice (suc n) [] l = absurd (omega arith)
 swapped-twice (suc n) (x ∷ []) l = absurd (omega arith)
 swapped-twice (suc n) (x ∷ y ∷ xs) l = ap (λ (r : List ℕ). x ∷ y ∷ r) (swapped-twice n xs (omega arith))
+
+pub swapped-bytes : (xs : List ℕ) → Every Byte xs → Every Byte (swapped xs)
+unfolding swapped
+swapped-bytes [] h = tt
+swapped-bytes (x ∷ []) h = tt
+swapped-bytes (x ∷ y ∷ xs) h = (h .1 .0, (h .0, swapped-bytes xs (h .1 .1)))
 
 take-two : (s : List ℕ) (k : ℕ) → k + 1 < length s → take (suc (suc k)) s ≡ take k s ++ getD s k 0 ∷ getD s (k + 1) 0 ∷ []
 take-two s k l = rw (take-suc s (suc k) 0 (omega arith), take-suc s k 0 (omega arith), add-one k) (append-assoc (take k s) (getD s k 0 ∷ []) (getD s (suc k) 0 ∷ []))

@@ -1,28 +1,36 @@
 -- The one statement, from the theorems.
-use Rattle.claims.specs.Reader.{Gorsepetal}
+use Rattle.promises.specs.Promises.{Gorsepetal}
 use Rattle.gorsepetal.proofs.Contracts as contracts
 use Rattle.claims.proofs.One as one
 use Rattle.claims.proofs.GivenBack as given-back
 use Rattle.claims.proofs.Frames as frames
 use Rattle.claims.proofs.Unmoved as unmoved
 use Rattle.claims.proofs.Feeding as feeding
 use Rattle.claims.proofs.Demand1 as demand-1
 use Rattle.claims.proofs.Demand2 as demand-2
 use Rattle.claims.proofs.SecondZone as second-zone
 use Rattle.claims.proofs.Balanced as balanced
 use Rattle.claims.proofs.Demand3 as demand-3
 use Rattle.claims.proofs.WhichRule as which-rule
 use Rattle.claims.proofs.Settings as settings
 use Rattle.claims.proofs.WrongRelays as wrong-relays
 use Rattle.settings.proofs.Examples as examples
 use Rattle.distance.proofs.Laws as distance
 use Rattle.differential.proofs.Laws as differential
 use Rattle.claims.proofs.HandChecks as hand-checks
 use Rattle.differential.proofs.PaperMill as paper-mill
 use Rattle.differential.proofs.Used as used
 use Rattle.differential.proofs.Rule as rule
 use Rattle.claims.proofs.Worked as worked
 use Rattle.claims.proofs.Underneath as underneath
+use Rattle.gorsepetal.proofs.EventContracts as event-contracts
+use Rattle.files.proofs.Cut as cut
+use Rattle.files.proofs.Joined as joined
+use Rattle.files.proofs.Known as known
+use Rattle.event_claims.proofs.One as event-one
+use Rattle.event_claims.proofs.GivenBack as event-rows
+use Rattle.event_claims.proofs.Files as event-files
+use Rattle.event_claims.proofs.Ending as ending
 
 pub gorsepetal : Gorsepetal
 gorsepetal = record {
@@ -33,18 +41,32 @@ gorsepetal = record {
   feed-contract = contracts.feed-contract;
   decide-numbers-contract = contracts.decide-numbers-contract;
   window-bytes-contract = contracts.window-bytes-contract;
+  events-open-contract = event-contracts.events-open-contract;
+  events-wanted-contract = event-contracts.events-wanted-contract;
+  events-read-contract = event-contracts.events-read-contract;
+  events-end-contract = event-contracts.events-end-contract;
+  events-write-contract = event-contracts.events-write-contract;
   one-proposed = one.one-proposed;
   one-confirmed = one.one-confirmed;
   one-read-back = one.one-read-back;
   one-decided = one.one-decided;
   one-fed = one.one-fed;
   one-decided-numbers = one.one-decided-numbers;
+  one-events-opened = event-one.one-events-opened;
+  one-events-wanted = event-one.one-events-wanted;
+  one-events-read = event-one.one-events-read;
+  one-events-ended = event-one.one-events-ended;
+  one-events-written = event-one.one-events-written;
   number-and-place = one.number-and-place;
   propose-answers = given-back.propose-answers;
   confirm-answers = given-back.confirm-answers;
   read-back-answers = given-back.read-back-answers;
   decide-answers = given-back.decide-answers;
   feed-answers = frames.feed-answers;
+  events-open-answers = event-rows.events-open-answers;
+  events-read-answers = event-rows.events-read-answers;
+  events-end-answers = event-rows.events-end-answers;
+  events-write-answers = event-rows.events-write-answers;
   demand-1 = demand-1.demand-1;
   over-histories = demand-1.over-histories;
   firmware-hears = feeding.firmware-hears;
@@ -56,8 +78,28 @@ gorsepetal = record {
   place-falls = feeding.place-falls;
   refused-feed = frames.refused-feed;
   feed-leaves-settings = unmoved.feed-leaves-settings;
+  read-leaves-settings = unmoved.read-leaves-settings;
   entries-leave-window = unmoved.entries-leave-window;
   window-does-not-matter = unmoved.window-does-not-matter;
+  cut-anywhere = event-files.cut-anywhere;
+  fed-by-hand = event-files.fed-by-hand;
+  written-read = event-files.written-read;
+  read-written = event-files.read-written;
+  read-is-fed = frames.read-is-fed;
+  else-unfed = frames.else-unfed;
+  hears-by-events = feeding.hears-by-events;
+  zero-means = ending.zero-means;
+  writes-record = event-files.writes-record;
+  refusals-end = ending.refusals-end;
+  same-refusal = ending.same-refusal;
+  feed-does-not-end = ending.feed-does-not-end;
+  no-wrap = known.no-wrap;
+  refused-read = ending.refused-read;
+  refused-write = event-files.refused-write;
+  no-reader-no-change = ending.no-reader-no-change;
+  cut-over-width = cut.cut-anywhere;
+  read-as-joined = joined.read-as-joined;
+  joined-as-read = joined.joined-as-read;
   demand-2 = demand-2.demand-2;
   second-zone-has-first = second-zone.second-zone-has-first;
   other-bytes-stay = second-zone.other-bytes-stay;
@@ -75,6 +117,7 @@ gorsepetal = record {
   which-rule = which-rule.which-rule;
   which-rule-over-histories = which-rule.which-rule-over-histories;
   which-rule-by-feeding = which-rule.which-rule-by-feeding;
+  which-rule-by-events = which-rule.which-rule-by-events;
   which-record = which-rule.which-record;
   which-record-over-histories = which-rule.which-record-over-histories;
   said-twice-reads-back = which-rule.said-twice-reads-back;

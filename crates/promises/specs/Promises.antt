@@ -1,5 +1,5 @@
 -- Document 01, "What a reader may rely on", with what document 02 adds, as one statement: each field is a promise about the calls, by name.
--- proofs/Reader.antt is its witness. That a call ends and keeps to what it was lent is what it means to be proved; the window program's lines
+-- proofs/Promises.antt is its witness. That a call ends and keeps to what it was lent is what it means to be proved; the window program's lines
 -- are proved in `report`.
 use Rattle.settings.specs.Examples.{AsFound, ByOffset}
 use Rattle.distance.specs.Laws.{MhoRule, LargerReach, NoPolarising, NoPositive, NoneBelowPickup, NeverBoth, ForwardRule, ReverseRule}
@@ -8,24 +8,31 @@ use Rattle.differential.specs.Named.{NamedWindow, OneCountIsFalse, BandIsUsed}
 use Rattle.differential.specs.PaperMill.{PaperMill}
 use Rattle.gorsepetal.specs.Calls.{Proposed, Confirmed, ReadBack}
 use Rattle.gorsepetal.proofs.Contracts.{ProposeContract, ConfirmContract, ReadBackContract, DecideContract, FeedContract, DecideNumbersContract, WindowBytesContract}
 use Rattle.claims.specs.One.{OneProposed, OneConfirmed, OneReadBack, OneDecided, OneFed, OneDecidedNumbers, NumberAndPlace}
 use Rattle.claims.specs.GivenBack.{ProposeAnswers, ConfirmAnswers, ReadBackAnswers, DecideAnswers, FeedAnswers}
 use Rattle.claims.specs.Settings.{GoodExactly, FreshHasNothing, AcceptedProposal, AcceptedConfirmation, GoodComesIntoForce, ReadsWhatIsInForce, ConfirmedReadsBack, RefusedEntry, NoThirdEntry, DiffersAtFirst, MissingInOrder, RefusedReadBack, RefusedDecide, NoRelayNoChange}
 use Rattle.claims.specs.WrongRelays.{NotZeroed, NotHandedOut}
 use Rattle.claims.specs.Demand1.{Demand1, OverHistories}
-use Rattle.claims.specs.Frames.{KeptExactly, ElseNothingKept, FedAsDecided, MissingInFrames, RefusedFeed}
-use Rattle.claims.specs.Unmoved.{FeedLeavesSettings, EntriesLeaveWindow, WindowDoesNotMatter}
-use Rattle.claims.specs.Feeding.{FirmwareHears, HearsOverHistories, PlaceFalls}
+use Rattle.claims.specs.Frames.{KeptExactly, ElseNothingKept, FedAsDecided, MissingInFrames, RefusedFeed, ReadIsFed, ElseUnfed}
+use Rattle.claims.specs.Unmoved.{FeedLeavesSettings, ReadLeavesSettings, EntriesLeaveWindow, WindowDoesNotMatter}
+use Rattle.claims.specs.Feeding.{FirmwareHears, HearsByEvents, HearsOverHistories, PlaceFalls}
 use Rattle.claims.specs.Demand2.{Demand2}
 use Rattle.claims.specs.SecondZone.{SecondZoneHasFirst, OtherBytesStay, RecordsFromBefore}
 use Rattle.claims.specs.Balanced.{BalancedFault, BetweenLimits, NoVoltage, ElseAsBefore}
 use Rattle.claims.specs.Demand3.{Demand3First, Demand3Second, TripHasReason, FaultTrips, ThroughDoesNot, ThroughIsQuiet}
-use Rattle.claims.specs.WhichRule.{WhichRule, WhichRuleOverHistories, WhichRuleByFeeding, WhichRecord, WhichRecordOverHistories, SaidTwiceReadsBack, SaidTwiceDecides, SaidTwiceDecidesByFeeding}
+use Rattle.claims.specs.WhichRule.{WhichRule, WhichRuleOverHistories, WhichRuleByFeeding, WhichRuleByEvents, WhichRecord, WhichRecordOverHistories, SaidTwiceReadsBack, SaidTwiceDecides, SaidTwiceDecidesByFeeding}
 use Rattle.claims.specs.HandChecks.{HandChecks}
 use Rattle.claims.specs.Worked.{WorkedDecisions}
 use Rattle.claims.specs.Underneath.{RoundedOnce, RootsOnce}
+use Rattle.gorsepetal.proofs.EventContracts.{EventsOpenContract, EventsWantedContract, EventsReadContract, EventsEndContract, EventsWriteContract}
+use Rattle.files.specs.Cutting.{ReadAsJoined, JoinedAsRead, NoWrap}
+use Rattle.files.specs.Cutting as cutting
+use Rattle.event_claims.specs.One.{OneEventsOpened, OneEventsWanted, OneEventsRead, OneEventsEnded, OneEventsWritten}
+use Rattle.event_claims.specs.GivenBack.{EventsOpenAnswers, EventsReadAnswers, EventsEndAnswers, EventsWriteAnswers}
+use Rattle.event_claims.specs.Files.{CutAnywhere, WritesRecord, RefusedWrite, WrittenRead, ReadWritten, FedByHand}
+use Rattle.event_claims.specs.Ending.{RefusalsEnd, SameRefusal, FeedDoesNotEnd, ZeroMeans, RefusedRead, NoReaderNoChange}
 
-pub record Gorsepetal : Type 0 where
+pub record Gorsepetal : Type 1 where
   -- what the code promises is the claims that all of this speaks of, and it asks nothing of its caller
   pub propose-contract : ProposeContract
   pub confirm-contract : ConfirmContract
@@ -34,6 +41,11 @@ pub record Gorsepetal : Type 0 where
   pub feed-contract : FeedContract
   pub decide-numbers-contract : DecideNumbersContract
   pub window-bytes-contract : WindowBytesContract
+  pub events-open-contract : EventsOpenContract
+  pub events-wanted-contract : EventsWantedContract
+  pub events-read-contract : EventsReadContract
+  pub events-end-contract : EventsEndContract
+  pub events-write-contract : EventsWriteContract
   -- no second result meets a claim
   pub one-proposed : OneProposed
   pub one-confirmed : OneConfirmed
@@ -41,6 +53,11 @@ pub record Gorsepetal : Type 0 where
   pub one-decided : OneDecided
   pub one-fed : OneFed
   pub one-decided-numbers : OneDecidedNumbers
+  pub one-events-opened : OneEventsOpened
+  pub one-events-wanted : OneEventsWanted
+  pub one-events-read : OneEventsRead
+  pub one-events-ended : OneEventsEnded
+  pub one-events-written : OneEventsWritten
   pub number-and-place : NumberAndPlace
   -- each number comes in its row's condition, and in no other
   pub propose-answers : ProposeAnswers
@@ -48,6 +65,10 @@ pub record Gorsepetal : Type 0 where
   pub read-back-answers : ReadBackAnswers
   pub decide-answers : DecideAnswers
   pub feed-answers : FeedAnswers
+  pub events-open-answers : EventsOpenAnswers
+  pub events-read-answers : EventsReadAnswers
+  pub events-end-answers : EventsEndAnswers
+  pub events-write-answers : EventsWriteAnswers
   -- demand 1: in force exactly when said twice
   pub demand-1 : Demand1
   pub over-histories : OverHistories
@@ -62,8 +83,31 @@ pub record Gorsepetal : Type 0 where
   pub refused-feed : RefusedFeed
   -- and what feeding does not move
   pub feed-leaves-settings : FeedLeavesSettings
+  pub read-leaves-settings : ReadLeavesSettings
   pub entries-leave-window : EntriesLeaveWindow
   pub window-does-not-matter : WindowDoesNotMatter
+  -- event files: read in pieces cut anywhere, fed as by hand, written and read back
+  pub cut-anywhere : CutAnywhere
+  pub fed-by-hand : FedByHand
+  pub written-read : WrittenRead
+  pub read-written : ReadWritten
+  pub read-is-fed : ReadIsFed
+  pub else-unfed : ElseUnfed
+  pub hears-by-events : HearsByEvents
+  pub zero-means : ZeroMeans
+  pub writes-record : WritesRecord
+  -- what ends a reading and what does not, and what a refusal leaves
+  pub refusals-end : RefusalsEnd
+  pub same-refusal : SameRefusal
+  pub feed-does-not-end : FeedDoesNotEnd
+  pub no-wrap : NoWrap
+  pub refused-read : RefusedRead
+  pub refused-write : RefusedWrite
+  pub no-reader-no-change : NoReaderNoChange
+  -- and the cutting itself, over the width of a channel
+  pub cut-over-width : cutting.CutAnywhere
+  pub read-as-joined : ReadAsJoined
+  pub joined-as-read : JoinedAsRead
   -- demand 2: every quantity equals its definition
   pub demand-2 : Demand2
   -- the second zone, and what it does not move
@@ -86,6 +130,7 @@ pub record Gorsepetal : Type 0 where
   pub which-rule : WhichRule
   pub which-rule-over-histories : WhichRuleOverHistories
   pub which-rule-by-feeding : WhichRuleByFeeding
+  pub which-rule-by-events : WhichRuleByEvents
   pub which-record : WhichRecord
   pub which-record-over-histories : WhichRecordOverHistories
   pub said-twice-reads-back : SaidTwiceReadsBack

@@ -1,0 +1,2 @@
+-- Its witness.
+pub mod Promises
