@@ -7,7 +7,7 @@ use native.Mathlib.Omega.{arith}
 use borrow.Author.Tests.{eq-eqb, ne-eqb, le-leb, lt-leb, eqb-true, eqb-false, leb-true, leb-false}
 use lib.Dec.{leb}
 use lib.IntN.{ℤ}
-use lib.ListN.{length, take, drop}
+use lib.ListN.{length}
 use lib.Seq.{length-take-le}
 use Rattle.answers.specs.declared.Answer.{Answer}
 use Rattle.answers.specs.declared.Answer.the-variants.{Done, NoSettings, NoRoom, OtherFrameLength, TooFewFrames, NoRelay}
@@ -19,7 +19,6 @@ use Rattle.samples.specs.Window.{frames, windowLength, numbersOf, firstMissing}
 use Rattle.samples.proofs.Bytes.{held}
 use Rattle.samples.proofs.Missing.{first-at, first-nothing, is-first, first-in-order}
 use Rattle.stream.specs.Window.{counted}
-use Rattle.stream.specs.Stored.{numberBytes}
 use Rattle.stream.proofs.Moving.{moved-length}
 use Rattle.stream.proofs.Reading.{part-holds}
 use Rattle.settings.specs.Fields.{ends}

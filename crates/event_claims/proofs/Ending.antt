@@ -3,24 +3,22 @@ use Prim.Native.Nat.{ℕ, suc, _+_, _*_, _≤_, _<_}
 use mathlib.Core.Path.{_≡_, refl, sym, ap, _∙_}
 use mathlib.Core.Logic.{_⊎_, inl, inr}
 use mathlib.Core.List.{List, [], _∷_}
-use mathlib.Core.Bool.{Bool, true, false, cond, not, _&&_, false≢true}
+use mathlib.Core.Bool.{Bool, true, false, cond, _&&_}
 use native.Mathlib.Omega.{arith}
-use borrow.Author.Tests.{eq-eqb, ne-eqb, eqb-true, eqb-false}
-use lib.Dec.{eqb}
+use borrow.Author.Tests.{eq-eqb, ne-eqb, eqb-true}
 use lib.ListN.{length}
-use Rattle.answers.specs.Answers.{givenBack, isDone}
+use Rattle.answers.specs.Answers.{givenBack}
 use Rattle.answers.specs.declared.Answer.the-variants.{NoRelay}
 use Rattle.records.specs.Record.{Shape, goodFile, narrow, frameIn}
 use Rattle.records.proofs.Writing.{both}
-use Rattle.files.specs.Reader.{Ending, BadFile, OtherNumber, InsideRecord, answerOf, Reader, Ended, Reading, Outcome, Stopped, More, Whole, wanted, opened, refusal, readOutcome, readNext, endAnswer, endNext}
-use Rattle.files.specs.Cutting.{Knows}
+use Rattle.files.specs.Reader.{Ending, BadFile, OtherNumber, InsideRecord, answerOf, Reader, Ended, Reading, Outcome, Stopped, More, Whole, wanted, refusal, readOutcome, readNext, endAnswer, endNext}
 use Rattle.files.proofs.Cut.{some-length, always-wants}
 use Rattle.files.proofs.Known.{caller-knows}
-use Rattle.events.specs.Slice.{readerLength, isReader, isReading, readerOf, wantedIn, openedBytes, readLeft, endLeft, shapeIn, indexIn, handIn, endedBy, endedIn}
-use Rattle.events.proofs.Standing.{held-is, ended-is, slice-fits, not-done}
+use Rattle.events.specs.Slice.{readerLength, isReader, isReading, readerOf, wantedIn, readLeft, shapeIn, indexIn, handIn}
+use Rattle.events.proofs.Standing.{held-is, ended-is, slice-fits}
 use Rattle.events.proofs.Next.{opened-reads, read-reads, read-length, end-reads, read-shows}
 use Rattle.gorsepetal.specs.State.{stateLength}
-use Rattle.gorsepetal.specs.Calls.{isRelay, feedAnswer}
+use Rattle.gorsepetal.specs.Calls.{isRelay}
 use Rattle.gorsepetal.specs.EventFiles.{bothLent, pieceOutcome, handed, answerBy, EventsOpened, EventsRead, EventsEnded}
 use Rattle.gorsepetal.proofs.EventCases.{both-lent, Hands, nothing, a-frame, hands}
 use Rattle.claims.specs.GivenBack.{FeedRow}

@@ -1,26 +1,22 @@
 -- What is promised of a whole file: from cutting (`files`), records made and taken apart (`records`), and that C's caller goes along (`Following`).
-use Prim.Native.Nat.{ℕ, zero, suc, _+_, _*_, _≤_, _<_}
-use mathlib.Core.Path.{_≡_, refl, sym, ap, ap₂, subst, _∙_}
+use Prim.Native.Nat.{ℕ, _+_, _≤_, _<_}
+use mathlib.Core.Path.{_≡_, refl, sym, ap, ap₂, _∙_}
 use mathlib.Core.List.{List, [], _∷_, _++_, append-nil, map}
-use mathlib.Core.Bool.{Bool, true, false, cond}
 use native.Mathlib.Omega.{arith}
 use native.Mathlib.Numerals.{add-one}
 use borrow.Author.Tests.{eq-eqb}
-use lib.ListN.{length, take, drop}
-use lib.Seq.{take-append-seam}
-use Rattle.answers.specs.declared.Answer.{Answer}
+use lib.ListN.{length, take}
 use Rattle.answers.specs.declared.Answer.the-variants as answer
-use Rattle.answers.specs.Answers.{givenBack, isDone}
+use Rattle.answers.specs.Answers.{givenBack}
 use Rattle.answers.proofs.Numbers.{zero-is, not-zero-refused}
 use Rattle.lent.specs.Lent.{over}
 use Rattle.lent.specs.Bytes.{Every, Byte}
 use Rattle.lent.proofs.Over.{over-read}
-use Rattle.samples.specs.Window.{channels}
-use Rattle.records.specs.Record.{Shape, narrow, recordLength, goodFile, numberIn, timeIn, frameIn, recordOf}
+use Rattle.records.specs.Record.{Shape, narrow, recordLength, numberIn, timeIn, frameIn, recordOf}
 use Rattle.records.specs.Writer.{writeAnswer}
 use Rattle.records.proofs.Made.{made-length, made-number, made-time, made-frame, made-again}
-use Rattle.files.specs.Reader.{Reader, Ended, Reading, Ending, answerOf, opened, endAnswer}
-use Rattle.files.specs.Caller.{Caller, Hears, starts, hand, together, heardOf, notes, byHand, afterAll}
+use Rattle.files.specs.Reader.{Reader, Ended, Reading, endAnswer}
+use Rattle.files.specs.Caller.{Caller, starts, hand, together, heardOf, notes, byHand, afterAll}
 use Rattle.files.specs.Cutting.{Numbered, stoppedBy}
 use Rattle.files.proofs.Cut as cut
 use Rattle.files.proofs.Joined.{read-as-joined, joined-as-read}
@@ -30,10 +26,10 @@ use Rattle.events.proofs.Standing.{slice-fits}
 use Rattle.events.proofs.Next.{opened-reads}
 use Rattle.gorsepetal.specs.State.{stateLength}
 use Rattle.gorsepetal.specs.Calls.{feedAnswer, feedState, feedOut}
-use Rattle.gorsepetal.specs.EventFiles.{openLeft, EventsWritten}
+use Rattle.gorsepetal.specs.EventFiles.{openLeft}
 use Rattle.event_claims.specs.GivenBack.{GoodEnds, GoodFile}
 use Rattle.event_claims.specs.GivenBack as row
-use Rattle.event_claims.specs.Caller.{Told, fed, refused, Lent, readPieces, OfFile, ofFile, lending, opening}
+use Rattle.event_claims.specs.Caller.{Told, fed, Lent, readPieces, OfFile, ofFile, lending, opening}
 use Rattle.event_claims.specs.Files.{CutAnywhere, Event, IsEvent, recordsFrom, fileOf, WritesRecord, RefusedWrite, eventsIn, WrittenRead, ReadWritten, fedByHand, relayAfter, AsByHand, FedByHand}
 use Rattle.event_claims.proofs.GivenBack.{file-is, events-write-answers}
 use Rattle.event_claims.proofs.Following.{feeds, seen, Ok, as-seen, still-ok}

@@ -1,32 +1,31 @@
 -- The caller of the C functions goes along with the caller of the definitions: the slice is the reader, and what is heard by what the calls give back
 -- and leave is what the outcome of each piece says.
-use Prim.Native.Nat.{ℕ, suc, _*_, _-_, _≤_, _<_}
-use mathlib.Core.Path.{_≡_, refl, sym, ap, ap₂, _∙_}
+use Prim.Native.Nat.{ℕ, _*_, _-_, _<_}
+use mathlib.Core.Path.{_≡_, refl, sym, ap, _∙_}
 use mathlib.Core.List.{List, [], _∷_, _++_, append-nil}
 use mathlib.Core.Bool.{Bool, true, false, cond}
 use native.Mathlib.Omega.{arith}
-use borrow.Author.Tests.{eq-eqb, ne-eqb, le-leb, lt-leb, leb-true, leb-false}
+use borrow.Author.Tests.{eq-eqb, ne-eqb, leb-true, leb-false}
 use lib.Dec.{eqb, leb}
 use lib.ListN.{length, take, drop}
 use Rattle.answers.specs.Answers.{givenBack}
 use Rattle.samples.specs.Window.{channels}
-use Rattle.records.specs.Record.{Shape, recordLength, timeIn, frameIn}
-use Rattle.files.specs.Reader.{Ending, answerOf, Reader, Ended, Reading, Outcome, Stopped, More, Whole, wanted, after, inHand, outcome, readOutcome, readNext, Fits}
-use Rattle.files.specs.Caller.{Caller, Hears, hears, callOn, call, wants, hand, together}
+use Rattle.records.specs.Record.{Shape, timeIn, frameIn}
+use Rattle.files.specs.Reader.{answerOf, Reader, Reading, Outcome, Stopped, More, Whole, wanted, after, inHand, readOutcome, readNext, Fits}
+use Rattle.files.specs.Caller.{Caller, Hears, hears, callOn, call, wants, hand}
 use Rattle.files.specs.Cutting.{Knows}
-use Rattle.files.proofs.Cut.{always-wants, fits-next, cut-anywhere}
+use Rattle.files.proofs.Cut.{always-wants, fits-next}
 use Rattle.files.proofs.Follow.{follow, follow-ok}
 use Rattle.files.proofs.Known.{caller-knows}
-use Rattle.events.specs.Slice.{readerLength, isReading, readerOf, wantedIn, readLeft, timeShown, frameShown, endsIn, shapeIn, indexIn, handIn, endedBy, endedIn}
+use Rattle.events.specs.Slice.{readerLength, isReading, readerOf, wantedIn, readLeft, frameShown, shapeIn, indexIn, handIn}
 use Rattle.events.proofs.Standing.{held-is, ended-is, slice-fits}
 use Rattle.events.proofs.Next.{read-reads, read-length, read-shows}
 use Rattle.gorsepetal.specs.State.{stateLength}
 use Rattle.gorsepetal.specs.Calls.{feedAnswer, feedState, feedOut}
-use Rattle.gorsepetal.specs.EventFiles.{bothLent, pieceOutcome, readAnswer, readState, readReader, readOut, closeAnswer}
+use Rattle.gorsepetal.specs.EventFiles.{bothLent, pieceOutcome, readAnswer, readState, readReader, readOut}
 use Rattle.gorsepetal.proofs.EventCases.{both-lent}
 use Rattle.claims.proofs.Unmoved.{read-leaves-settings}
-use Rattle.event_claims.specs.Caller.{Told, fed, refused, Lent, heardBy, readOnce, readPieces, ofFile, lending}
-use Rattle.event_claims.specs.Files.{CutAnywhere}
+use Rattle.event_claims.specs.Caller.{Told, fed, refused, Lent, heardBy, readOnce, readPieces}
 
 -- what is done with a whole record: its frame is fed
 abbrev pub feeds : Hears (List ℕ × List ℕ) Told

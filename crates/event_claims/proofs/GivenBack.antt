@@ -1,7 +1,7 @@
 -- The rows of the calls for event files. From the number to its row: the tests that the answer is made of are gone through. From the row to the
 -- number: each test's outcome is known.
 use Prim.Native.Nat.{ℕ, suc, _+_, _*_, _≤_, _<_}
-use mathlib.Core.Path.{_≡_, refl, sym, ap, _∙_}
+use mathlib.Core.Path.{_≡_, refl, sym, _∙_}
 use mathlib.Core.List.{List, [], _∷_}
 use mathlib.Core.Bool.{Bool, true, false, cond, not, _&&_, false≢true}
 use native.Mathlib.Omega.{arith}
@@ -13,9 +13,9 @@ use Rattle.answers.specs.Answers.{givenBack}
 use Rattle.samples.specs.Window.{channels}
 use Rattle.records.specs.Record.{Shape, goodEnds, goodFile, narrow, recordLength, numberIn, frameIn}
 use Rattle.records.proofs.Writing.{good-ends}
-use Rattle.files.specs.Reader.{answerOf, Reader, Ended, Reading, Stopped, More, Whole, opened, refusal, wrongNumber, outcome, inHand, endAnswer}
+use Rattle.files.specs.Reader.{Reader, Ended, Reading, Stopped, More, Whole, opened, refusal, wrongNumber, outcome, inHand, endAnswer}
 use Rattle.files.specs.Reader as reader
-use Rattle.files.proofs.Cut.{some-length}
+use Rattle.files.proofs.Cut.{some-length, right-number}
 use Rattle.events.specs.Slice.{readerLength, isReader, readerOf}
 use Rattle.gorsepetal.specs.State.{stateLength}
 use Rattle.gorsepetal.specs.Calls.{isRelay, feedAnswer}
@@ -142,13 +142,6 @@ module _ (s r p out : List ℕ) where
     abbrev g : List ℕ
     g = inHand sh h p
 
-    right : wrongNumber i g ≡ false → 4 ≤ length g → numberIn g ≡ suc i
-    right w l = by-test (eqb (numberIn g) (suc i)) refl (rw (le-leb 4 (length g) l) at w)
-      where
-        by-test : (b : Bool) → eqb (numberIn g) (suc i) ≡ b → not b ≡ false → numberIn g ≡ suc i
-        by-test true e n = eqb-true (numberIn g) (suc i) e
-        by-test false e n = absurd (false≢true (sym n))
-
     wrong : (a b : Bool) → leb 4 (length g) ≡ a → eqb (numberIn g) (suc i) ≡ b → (a && not b) ≡ true → (4 ≤ length g) × (numberIn g ≡ suc i → ⊥)
     wrong true true t u e = absurd (false≢true e)
     wrong true false t u e = (leb-true 4 (length g) t, eqb-false (numberIn g) (suc i) u)
@@ -160,8 +153,8 @@ module _ (s r p out : List ℕ) where
     read-on true b t u l k e = let w = wrong (leb 4 (length g)) (eqb (numberIn g) (suc i)) refl refl t in row.ReadRow.other-number l k sh i h e (w .0) (w .1)
     read-on false true t u l k e =
         let full = leb-true (recordLength sh) (length g) u in
-        row.ReadRow.fed l k sh i h e (right t (omega (arith, full, some-length sh))) full _ (fed-row (frameIn (sh .ends) g))
-    read-on false false t u l k e = row.ReadRow.taken l k sh i h e (right t) (leb-false (recordLength sh) (length g) u)
+        row.ReadRow.fed l k sh i h e (right-number i g (omega (arith, full, some-length sh)) t) full _ (fed-row (frameIn (sh .ends) g))
+    read-on false false t u l k e = row.ReadRow.taken l k sh i h e (λ few. right-number i g few t) (leb-false (recordLength sh) (length g) u)
 
     on-wrong : 4 ≤ length g → (numberIn g ≡ suc i → ⊥) → outcome sh i g ≡ Stopped (reader.OtherNumber i)
     on-wrong l n = rw (le-leb 4 (length g) l, ne-eqb (numberIn g) (suc i) n)

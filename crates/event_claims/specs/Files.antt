@@ -1,19 +1,19 @@
 -- Document 02, CR 5: what is promised of a whole file, over what its caller hears.
-use Prim.Native.Nat.{ℕ, suc, _+_, _*_, _≤_, _<_}
+use Prim.Native.Nat.{ℕ, _+_, _*_, _≤_, _<_}
 use mathlib.Core.Path.{_≡_}
-use mathlib.Core.List.{List, [], _∷_, _++_, map}
+use mathlib.Core.List.{List, [], _∷_, _++_}
 use lib.ListN.{length, take}
 use Rattle.answers.specs.Answers.{givenBack}
 use Rattle.lent.specs.Bytes.{Every, Byte}
 use Rattle.samples.specs.Window.{channels}
-use Rattle.records.specs.Record.{narrow, goodFile, recordLength, recordOf}
+use Rattle.records.specs.Record.{narrow, recordLength, recordOf}
 use Rattle.files.specs.Caller.{together}
 use Rattle.events.specs.Slice.{readerLength}
 use Rattle.gorsepetal.specs.State.{stateLength}
 use Rattle.gorsepetal.specs.Calls.{feedAnswer, feedState, feedOut}
 use Rattle.gorsepetal.specs.EventFiles.{EventsWritten}
 use Rattle.event_claims.specs.GivenBack.{GoodEnds, GoodFile}
-use Rattle.event_claims.specs.Caller.{Told, fed, refused, Lent, readPieces, OfFile, ofFile, lending, opening}
+use Rattle.event_claims.specs.Caller.{Told, fed, refused, readPieces, OfFile, ofFile, lending, opening}
 
 -- "The file may arrive cut at any byte with the same answers." For every relay, every reader, whatever its bytes, and every way to cut the rest of
 -- the file.

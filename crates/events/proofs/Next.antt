@@ -3,19 +3,19 @@
 use Prim.Native.Nat.{ℕ, suc, _+_, _*_, _-_, _<_, _≤_}
 use mathlib.Core.Path.{_≡_, refl, sym, ap, ap₂, _∙_}
 use mathlib.Core.List.{List, [], _∷_, _++_}
-use mathlib.Core.Bool.{Bool, true, false, false≢true, cond, not}
+use mathlib.Core.Bool.{Bool, true, false, false≢true, cond}
 use native.Mathlib.Omega.{arith}
 use borrow.Author.Tests.{eq-eqb, ne-eqb, le-leb, lt-ltb, leb-true, leb-false, eqb-true}
 use lib.Dec.{eqb, leb}
-use lib.ListN.{length, take, drop, set, getD, length-set, length-append, length-take, length-drop}
-use lib.Seq.{getD-set-same, getD-set-other, drop-set-lt, length-take-le, take-all, take-length}
+use lib.ListN.{length, take, drop, set, getD, length-set, length-take, length-drop}
+use lib.Seq.{getD-set-same, getD-set-other, drop-set-lt, length-take-le}
 use Rattle.lent.specs.Lent.{over}
-use Rattle.lent.proofs.Over.{over-length, over-from, over-read, byte-before, byte-in}
+use Rattle.lent.proofs.Over.{over-length, over-read, byte-before, byte-in}
 use Rattle.samples.specs.Window.{channels}
-use Rattle.records.specs.Record.{Shape, wordAt, swapped, goodFile, narrow, recordLength, numberIn, timeIn, frameIn}
+use Rattle.records.specs.Record.{Shape, wordAt, goodFile, narrow, recordLength, numberIn, timeIn, frameIn}
 use Rattle.records.proofs.Swapped.{swapped-length}
-use Rattle.files.specs.Reader.{Ending, BadFile, OtherNumber, InsideRecord, Reader, Ended, Reading, opened, wanted, Outcome, Stopped, More, Whole, wrongNumber, outcome, after, readOutcome, readNext, endNext}
-use Rattle.files.proofs.Cut.{some-length}
+use Rattle.files.specs.Reader.{OtherNumber, InsideRecord, Ended, Reading, opened, wanted, Stopped, More, Whole, wrongNumber, after, readOutcome, readNext, endNext}
+use Rattle.files.proofs.Cut.{some-length, right-number}
 use Rattle.events.specs.Slice.{readerLength, handAt, endsIn, statusIn, endedIn, heldIn, indexIn, shapeIn, handIn, endedBy, isReading, readerOf, openedBytes, endLeft, frontOf, finished, leftBy, takenOutcome, takenLeft, readLeft, timeShown, frameEnd}
 use Rattle.events.proofs.Standing.{holds, held-is, ended-is, hand-length}
 use Rattle.events.proofs.TakeIn.{take-fits, t-length, g-length, in-hand}
@@ -152,14 +152,6 @@ module _ (s piece : List ℕ) (l : length s ≡ readerLength) (y : isReading s �
       reads f (endsIn s) (statusIn s) 0 (suc (indexIn s)) (f-before 0 (omega arith)) (f-before 1 (omega arith)) (f-before 2 (omega arith) ∙ h .ended)
       (f-front 0 (omega arith)) (f-index ∙ n) (h .good) (omega (arith, some-length (shapeIn s)))
 
-  -- a number that is not wrong is one above the index
-  right : 4 ≤ length g → wrongNumber (indexIn s) g ≡ false → numberIn g ≡ suc (indexIn s)
-  right few w = by-test (eqb (numberIn g) (suc (indexIn s))) refl (rw (le-leb 4 (length g) few) at w)
-    where
-      by-test : (b : Bool) → eqb (numberIn g) (suc (indexIn s)) ≡ b → not b ≡ false → numberIn g ≡ suc (indexIn s)
-      by-test true e n = eqb-true (numberIn g) (suc (indexIn s)) e
-      by-test false e n = absurd (false≢true (sym n))
-
   pub taken-reads : readerOf (takenLeft s piece) ≡ after (shapeIn s) (indexIn s) g (takenOutcome s piece)
   taken-reads = by-test (wrongNumber (indexIn s) g) (leb (recordLength (shapeIn s)) (length g)) refl refl
     where
@@ -169,7 +161,7 @@ module _ (s piece : List ℕ) (l : length s ≡ readerLength) (y : isReading s �
           readerOf (leftBy o (heldIn s + length piece) t) ≡ after (shapeIn s) (indexIn s) g o
       by-test true b u v = now-ended t 12 long (λ e. omega arith) ∙ ap (λ (n : ℕ). Ended (OtherNumber n)) t-index
       by-test false true u v =
-          whole-reads (right (omega (arith, leb-true (recordLength (shapeIn s)) (length g) v, some-length (shapeIn s))) u)
+          whole-reads (right-number (indexIn s) g (omega (arith, leb-true (recordLength (shapeIn s)) (length g) v, some-length (shapeIn s))) u)
       by-test false false u v = more-reads (leb-false (recordLength (shapeIn s)) (length g) v)
 
   pub taken-length : length (takenLeft s piece) ≡ readerLength

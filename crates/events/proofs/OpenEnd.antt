@@ -12,7 +12,7 @@ use Rattle.answers.specs.Answers.{isDone}
 use Rattle.lent.specs.Lent.{over}
 use Rattle.records.specs.Record.{Shape, goodFile}
 use Rattle.files.specs.Reader.{Reading, endNext, refusal}
-use Rattle.events.specs.Slice.{readerLength, heldIn, indexIn, shapeIn, handIn, isReading, readerOf, Opened, AtEnd}
+use Rattle.events.specs.Slice.{readerLength, heldIn, indexIn, shapeIn, handIn, readerOf, Opened, AtEnd}
 use Rattle.events.proofs.Standing.{held-is, ended-is, hand-length, goes-on, has-ended}
 
 -- ---- open

@@ -1,17 +1,17 @@
 -- Each way out of a call of read, on plain lists.
 use Prim.Native.Nat.{ℕ, _+_, _-_, _≤_}
-use mathlib.Core.Path.{_≡_, refl, sym, ap, _∙_}
-use mathlib.Core.List.{List, _++_}
+use mathlib.Core.Path.{_≡_, sym, ap, _∙_}
+use mathlib.Core.List.{List}
 use mathlib.Core.Bool.{Bool, true, false, not}
 use native.Mathlib.Nat.{sub-zero}
 use native.Mathlib.Omega.{arith}
 use borrow.Author.Tests.{eq-eqb}
-use lib.ListN.{length, take}
+use lib.ListN.{length, take, length-take}
 use lib.Seq.{take-all}
 use Rattle.answers.specs.declared.Answer.{Answer}
 use Rattle.answers.specs.Answers.{isDone}
 use Rattle.records.specs.Record.{recordLength}
-use Rattle.files.specs.Reader.{refusal, wanted}
+use Rattle.files.specs.Reader.{refusal}
 use Rattle.events.specs.Slice.{readerLength, heldIn, shapeIn, handIn, isReading, readerOf, wantedIn, TookIn, Read}
 use Rattle.events.specs.declared.Step.{Step}
 use Rattle.events.specs.declared.Step.the-variants as step
@@ -32,6 +32,9 @@ module _ (s : List ℕ) {a : Answer} {b : Bool} (f : a ≡ refusal (readerOf s))
 
     pub read-room : {m : ℕ} → m ≤ n → heldIn s + m ≤ recordLength (shapeIn s)
     read-room h = omega (arith, left-over, holds s read-on .short)
+
+    pub part-room : (p : List ℕ) → heldIn s + length (take (n - 0) p) ≤ recordLength (shapeIn s)
+    part-room p = read-room (simp length-take (omega arith))
 
     -- the bytes in hand are those that were taken in
     taken-in : (p q : List ℕ) → take n p ≡ q → {r : Step} {left : List ℕ} → TookIn s q r left → Read s p r left

@@ -1,12 +1,12 @@
 -- Each way out of taking in a piece, on plain lists. The piece stands behind the bytes in hand, and all that the outcome asks of them can be read
 -- where they lie.
-use Prim.Native.Nat.{ℕ, suc, _+_, _*_, _-_, _<_, _≤_}
+use Prim.Native.Nat.{ℕ, _+_, _*_, _-_, _<_, _≤_}
 use mathlib.Core.Path.{_≡_, refl, sym, ap, ap₂, _∙_}
 use mathlib.Core.List.{List, [], _∷_, _++_, append-assoc}
 use mathlib.Core.Bool.{Bool, true, false, not}
 use native.Mathlib.Omega.{arith}
 use native.Mathlib.Numerals.{add-one}
-use borrow.Author.Tests.{le-leb, lt-leb, leb-true}
+use borrow.Author.Tests.{le-leb, lt-leb, lt-ltb, le-ltb, leb-true, leb-false}
 use lib.Dec.{eqb, leb}
 use lib.ListN.{length, take, drop, set, getD, replicate, length-append, length-drop, take-append-drop}
 use lib.Seq.{length-take-le, take-at, drop-at, take-add, getD-take, getD-drop, take-append-le, drop-append-le, drop-drop}
@@ -17,7 +17,8 @@ use Rattle.samples.specs.Window.{channels}
 use Rattle.records.specs.Record.{wordAt, swapped, narrow, recordLength, numberIn, frameIn}
 use Rattle.records.proofs.Swapped.{swapped-length}
 use Rattle.files.specs.Reader.{wrongNumber}
-use Rattle.events.specs.Slice.{readerLength, handAt, endsIn, statusIn, heldIn, indexIn, shapeIn, handIn, isReading, wrongIn, frontOf, finished, TookIn}
+use Rattle.events.specs.Slice.{readerLength, endsIn, statusIn, heldIn, indexIn, shapeIn, handIn, isReading, wrongIn, frontOf, finished, Settled, TookIn}
+use Rattle.events.specs.declared.Step.{Step}
 use Rattle.events.specs.declared.Step.the-variants as step
 use Rattle.events.proofs.Standing.{holds, hand-length}
 
@@ -28,6 +29,19 @@ wrong-few s index {have} l = rw (lt-leb 4 have l)
 
 pub wrong-other : (s : List ℕ) (index : ℕ) {have w : ℕ} → 4 ≤ have → w ≡ wordAt s 56 → not (eqb w (index + 1)) ≡ wrongIn s have index
 wrong-other s index {have} l e = rw (le-leb 4 have l, e)
+
+-- ---- what the record comes to
+
+module _ {ends long index have : ℕ} {s left : List ℕ} {b : Bool} (w : b ≡ wrongIn s have index) where
+  pub settle-12 : b ≡ true → left ≡ set s 2 12 → Settled ends long index have s (step.Ended (answer.OtherNumber index)) left
+  settle-12 t k = let e = sym w ∙ t in record { step = rw e; reader = rw e k }
+
+  module _ (t : b ≡ false) where
+    pub settle-more : have < long → left ≡ set s 3 have → Settled ends long index have s step.Taken left
+    settle-more l k = let e = sym w ∙ t in let f = lt-ltb have long l in record { step = rw (e, f); reader = rw (e, f) k }
+
+    pub settle-whole : long ≤ have → left ≡ finished ends (drop 56 s) s → Settled ends long index have s step.Whole left
+    settle-whole l k = let e = sym w ∙ t in let f = le-ltb have long l in record { step = rw (e, f); reader = rw (e, f) k }
 
 -- ---- a record finished
 
@@ -80,8 +94,11 @@ module _ (s piece : List ℕ) (l : length s ≡ readerLength) (y : isReading s �
   abbrev pub g : List ℕ
   g = handIn s ++ piece
 
-  pub take-range : {ends status : ℕ} → ends ≡ endsIn s → status ≡ statusIn s → (ends ≤ 6) × (status ≤ 96)
-  take-range d u = let h = holds s y in (omega arith, omega arith)
+  pub take-ends : {ends : ℕ} → ends ≡ endsIn s → ends ≤ 6
+  take-ends d = let h = holds s y in omega arith
+
+  pub take-status : {status : ℕ} → status ≡ statusIn s → status ≤ 96
+  take-status d = let h = holds s y in omega arith
 
   pub take-fits : 56 + heldIn s + length piece ≤ 118
   take-fits = omega (arith, holds s y .small)
@@ -134,34 +151,27 @@ module _ (s piece : List ℕ) (l : length s ≡ readerLength) (y : isReading s �
       take-append-le m (drop 8 (take n (drop 56 t))) (drop n (drop 56 t)) (omega (arith, past)) ∙
       ap (λ (q : List ℕ). take m (drop 8 q)) in-hand)
 
-  module _ {held index : ℕ} {mid : List ℕ} {b : Bool}
-      (h : held ≡ heldIn s) (i : index ≡ indexIn s) (k : mid ≡ over s (56 + held) piece) (w : b ≡ wrongIn mid (held + length piece) index) where
-    mid-is : mid ≡ t
-    mid-is = k ∙ ap (λ (n : ℕ). over s (56 + n) piece) h
+  -- what is settled of the slice is the outcome
+  pub took :
+      {ends status held index long : ℕ} {mid left : List ℕ} {r : Step} → ends ≡ endsIn s → held ≡ heldIn s → status ≡ statusIn s → long ≡ recordLength (narrow ends status) →
+      index ≡ indexIn s → mid ≡ over s (56 + held) piece → Settled ends long index (held + length piece) mid r left → TookIn s piece r left
+  took {ends} {status} {held} {index} {long} {mid} {left} {r} d h u m i k c =
+      by-tests (wrongNumber (indexIn s) g) (leb (recordLength (shapeIn s)) (length g)) refl refl
+    where
+      settled : Settled (endsIn s) (recordLength (shapeIn s)) (indexIn s) (heldIn s + length piece) t r left
+      settled = rw (← d, ← u, ← m, ← i, ← h, ← k) c
 
-    tested : b ≡ wrongNumber (indexIn s) g
-    tested = w ∙ rw (mid-is, h, i) wrong-is
-
-    pub took-wrong : b ≡ true → TookIn s piece (step.Ended (answer.OtherNumber index)) (set mid 2 12)
-    took-wrong e = let wrong : wrongNumber (indexIn s) g ≡ true = sym tested ∙ e in record { step = rw (wrong, i); reader = rw (wrong, mid-is) }
-
-    module _ {ends status n : ℕ} (no : b ≡ false) (d : ends ≡ endsIn s) (u : status ≡ statusIn s) (m : n ≡ recordLength (narrow ends status)) where
-      right : wrongNumber (indexIn s) g ≡ false
-      right = sym tested ∙ no
-
-      long : n ≡ recordLength (shapeIn s)
-      long = m ∙ rw (d, u)
-
-      pub took-more : held + length piece < n → TookIn s piece step.Taken (set mid 3 (held + length piece))
-      took-more few =
-          let more : leb (recordLength (shapeIn s)) (length g) ≡ false = lt-leb (recordLength (shapeIn s)) (length g) (omega (arith, g-length, long)) in
-          record { step = rw (right, more); reader = rw (right, more, mid-is, h) }
-
-      pub took-whole : {left : List ℕ} → n ≤ held + length piece → left ≡ finished ends (drop 56 mid) mid → TookIn s piece step.Whole left
-      took-whole {left} all e =
-          let whole : recordLength (shapeIn s) ≤ length g = omega (arith, g-length, long) in
-          let full : leb (recordLength (shapeIn s)) (length g) ≡ true = le-leb (recordLength (shapeIn s)) (length g) whole in
+      by-tests : (a b : Bool) → wrongNumber (indexIn s) g ≡ a → leb (recordLength (shapeIn s)) (length g) ≡ b → TookIn s piece r left
+      by-tests true b v w = let e = wrong-is ∙ v in record { step = rw v (settled .step ∙ rw e); reader = rw v (settled .reader ∙ rw e) }
+      by-tests false true v w =
+          let e = wrong-is ∙ v in
+          let whole = leb-true (recordLength (shapeIn s)) (length g) w in
+          let f = le-ltb (heldIn s + length piece) (recordLength (shapeIn s)) (omega (arith, g-length, whole)) in
           let front = g-front (omega (arith, whole, g-length)) in
           let frame = g-frame (omega (arith, whole, g-length)) in
-          let is : left ≡ finished (endsIn s) g t = e ∙ rw (mid-is, d, front, frame) in
-          record { step = rw (right, full); reader = rw (right, full) is }
+          record { step = rw (v, w) (settled .step ∙ rw (e, f)); reader = rw (v, w) (settled .reader ∙ rw (e, f, front, frame)) }
+      by-tests false false v w =
+          let e = wrong-is ∙ v in
+          let few = leb-false (recordLength (shapeIn s)) (length g) w in
+          let f = lt-ltb (heldIn s + length piece) (recordLength (shapeIn s)) (omega (arith, g-length, few)) in
+          record { step = rw (v, w) (settled .step ∙ rw (e, f)); reader = rw (v, w) (settled .reader ∙ rw (e, f)) }

@@ -1,8 +1,8 @@
 -- Document 02, CR 5: how a reader lies in a lent slice of one fixed length, and what each call leaves there. Any bytes are a defined reader.
-use Prim.Native.Nat.{ℕ, _+_, _*_, _<_, _≤_}
+use Prim.Native.Nat.{ℕ, _+_, _*_}
 use mathlib.Core.Path.{_≡_}
 use mathlib.Core.List.{List, [], _∷_, _++_}
-use mathlib.Core.Bool.{Bool, true, cond, not, _&&_}
+use mathlib.Core.Bool.{Bool, cond, not, _&&_}
 use lib.Dec.{eqb, leb, ltb}
 use lib.ListN.{length, take, drop, set, getD, replicate}
 use Rattle.answers.specs.declared.Answer.{Answer}
@@ -134,6 +134,11 @@ pub record TookIn (s piece : List ℕ) (r : Step) (left : List ℕ) : Type 0 whe
 -- The test of the number, on the slice with so many bytes in hand.
 abbrev pub wrongIn : List ℕ → ℕ → ℕ → Bool
 wrongIn s have index = leb 4 have && not (eqb (wordAt s handAt) (index + 1))
+
+-- What the record being read comes to, asked of the slice alone: its length, its index and how many of its bytes are in hand.
+pub record Settled (ends long index have : ℕ) (s : List ℕ) (r : Step) (left : List ℕ) : Type 0 where
+  pub step : r ≡ cond (wrongIn s have index) (step.Ended (answer.OtherNumber index)) (cond (ltb have long) step.Taken step.Whole)
+  pub reader : left ≡ cond (wrongIn s have index) (set s 2 12) (cond (ltb have long) (set s 3 have) (finished ends (drop handAt s) s))
 
 -- What the slice shows of the last whole record: its time, 32 bits with the high byte first, and its frame as feed takes it.
 abbrev pub timeShown : List ℕ → ℕ

@@ -5,7 +5,7 @@ ghost use Prim.Native.Nat.{_+_, _*_, _<_, _≤_};
 ghost use lib.ListN.{length, drop};
 ghost use Rattle.records.specs.Record.{recordLength};
 ghost use Rattle.files.specs.Reader.{refusal};
-ghost use Rattle.events.specs.Slice.{readerLength, handAt, shapeIn, heldIn, indexIn, isReading, readerOf, Opened, wantedIn, AtEnd, wrongIn, finished, TookIn, Read, frameEnd};
+ghost use Rattle.events.specs.Slice.{readerLength, handAt, shapeIn, heldIn, indexIn, isReading, readerOf, Opened, wantedIn, AtEnd, wrongIn, finished, Settled, TookIn, Read, frameEnd};
 use answers::Answer;
 
 // How many bytes a reader has; and where it holds the time and the frame of the last whole record.
@@ -183,6 +183,23 @@ fn finish(reader: &mut [u8], ends: usize)
     lent::put(reader, FRAME, &frame[0..long]);
 }
 
+// What the record being read comes to, with so many bytes of it in hand.
+fn settle(reader: &mut [u8], ends: usize, long: usize, at: u32, have: usize) -> Step
+    requires { ⌜ (length (now reader) ≡ readerLength) × (ends ≤ 6) × (long ≤ 62) ⌝ }
+    ensures { λ r. ⌜ Settled ends long at have (now (reader .entry)) r (now (reader .exit)) ⌝ }
+{
+    if wrong_number(reader, have, at) {
+        reader[ENDED] = OTHER;
+        return Step::Ended(Answer::OtherNumber(at));
+    }
+    if have < long {
+        reader[HELD] = have as u8;
+        return Step::Taken;
+    }
+    finish(reader, ends);
+    Step::Whole
+}
+
 // Takes in a piece that is wanted to its end.
 fn take_in(reader: &mut [u8], piece: &[u8]) -> Step
     requires { ⌜ (length (now reader) ≡ readerLength) × (isReading (now reader) ≡ true) × (heldIn (now reader) + length (now piece) ≤ recordLength (shapeIn (now reader))) ⌝ }
@@ -190,20 +207,10 @@ fn take_in(reader: &mut [u8], piece: &[u8]) -> Step
 {
     let ends = size(reader[ENDS]);
     let held = size(reader[HELD]);
-    let n = records::record_length(ends, size(reader[STATUS]));
+    let long = records::record_length(ends, size(reader[STATUS]));
     let at = index(reader);
     lent::put(reader, HAND + held, piece);
-    let have = held + piece.len();
-    if wrong_number(reader, have, at) {
-        reader[ENDED] = OTHER;
-        return Step::Ended(Answer::OtherNumber(at));
-    }
-    if have < n {
-        reader[HELD] = have as u8;
-        return Step::Taken;
-    }
-    finish(reader, ends);
-    Step::Whole
+    settle(reader, ends, long, at, held + piece.len())
 }
 
 // Takes as many of the bytes lent as are wanted, no more.

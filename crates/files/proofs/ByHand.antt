@@ -2,14 +2,14 @@
 -- along byte by byte.
 use Prim.Native.Nat.{ℕ, suc}
 use mathlib.Core.Path.{_≡_, refl, sym, ap, _∙_}
-use mathlib.Core.List.{List, [], _∷_, _++_, append-assoc, append-nil}
+use mathlib.Core.List.{List, [], _∷_, _++_, append-nil}
 use mathlib.Core.Bool.{Bool, true, false, cond}
 use lib.Dec.{leb}
 use lib.ListN.{length}
 use Rattle.records.specs.Record.{Shape, recordLength}
-use Rattle.files.specs.Reader.{Reader, Ended, Reading, OtherNumber, Outcome, Stopped, More, Whole, wrongNumber, inHand, after}
-use Rattle.files.specs.Caller.{Caller, Hears, starts, hears, callOn, call, together, notes, byHand, afterAll}
-use Rattle.files.specs.Cutting.{stoppedBy, DoneByHand, AsByHand}
+use Rattle.files.specs.Reader.{Reading, OtherNumber, Stopped, More, Whole, wrongNumber, inHand, after}
+use Rattle.files.specs.Caller.{Hears, starts, hears, together, notes, byHand, afterAll}
+use Rattle.files.specs.Cutting.{DoneByHand, AsByHand}
 use Rattle.files.proofs.Cut.{some-length, bytewise, pieces, ended-bytes}
 use native.Mathlib.Omega.{arith}
 

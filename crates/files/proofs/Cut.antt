@@ -5,7 +5,7 @@ use mathlib.Core.Path.{_≡_, refl, sym, ap, _∙_}
 use mathlib.Core.List.{List, [], _∷_, _++_, append-assoc}
 use mathlib.Core.Bool.{Bool, true, false, false≢true, cond, not, _&&_}
 use native.Mathlib.Omega.{arith}
-use borrow.Author.Tests.{leb-true, leb-false, le-leb, lt-leb}
+use borrow.Author.Tests.{leb-true, leb-false, le-leb, lt-leb, eqb-true}
 use lib.Dec.{eqb, leb}
 use lib.ListN.{length, take, drop, length-append, length-take, length-drop, take-append-drop, List·getD-append}
 use lib.Seq.{take-all, take-take}
@@ -38,6 +38,14 @@ wrong-on i h q w = by-test (leb 4 (length h)) refl w
         let more : 4 ≤ length (h ++ q) = simp length-append (omega arith) in
         rw (le-leb 4 (length (h ++ q)) more, number-on h q four) w
     by-test false t w = absurd (false≢true w)
+
+-- one that is not wrong is one above the index
+pub right-number : (i : ℕ) (g : List ℕ) → 4 ≤ length g → wrongNumber i g ≡ false → numberIn g ≡ suc i
+right-number i g l t = by-test (eqb (numberIn g) (suc i)) refl (rw (le-leb 4 (length g) l) at t)
+  where
+    by-test : (b : Bool) → eqb (numberIn g) (suc i) ≡ b → not b ≡ false → numberIn g ≡ suc i
+    by-test true e n = eqb-true (numberIn g) (suc i) e
+    by-test false e n = absurd (false≢true (sym n))
 
 -- the bytes in hand after a piece that is wanted to its end
 pub all-taken : (sh : Shape) (h p : List ℕ) → length h + length p ≤ recordLength sh → inHand sh h p ≡ h ++ p

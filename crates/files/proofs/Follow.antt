@@ -1,6 +1,6 @@
 -- Two callers who want the same and whose calls go along hear the same of a file, however it is cut.
 use Prim.Native.Nat.{ℕ, zero, suc}
-use mathlib.Core.Path.{_≡_, refl, sym, ap, ap₂, _∙_}
+use mathlib.Core.Path.{_≡_, refl, ap, ap₂, _∙_}
 use mathlib.Core.List.{List, [], _∷_}
 use lib.ListN.{length, drop}
 use Rattle.files.specs.Caller.{handTurns, handAll}

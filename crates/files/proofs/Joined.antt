@@ -3,18 +3,18 @@
 use Prim.Native.Nat.{ℕ, suc, _+_, _<_, _≤_}
 use mathlib.Core.Path.{_≡_, refl, sym, ap, ap₂, subst, _∙_}
 use mathlib.Core.List.{List, [], _∷_, _++_, append-assoc, append-nil}
-use mathlib.Core.Bool.{Bool, true, false, false≢true, cond, not}
+use mathlib.Core.Bool.{Bool, true, false, false≢true, cond}
 use native.Mathlib.Omega.{arith}
-use borrow.Author.Tests.{leb-true, leb-false, le-leb, eq-eqb, eqb-true}
-use lib.Dec.{eqb, leb}
+use borrow.Author.Tests.{leb-true, leb-false, le-leb, eq-eqb}
+use lib.Dec.{leb}
 use lib.ListN.{length, length-append}
 use Rattle.answers.specs.declared.Answer.the-variants as answer
 use Rattle.answers.specs.Answers.{isDone}
 use Rattle.records.specs.Record.{Shape, recordLength, numberIn}
-use Rattle.files.specs.Reader.{Reading, OtherNumber, Stopped, More, Whole, wrongNumber, outcome, after, inHand, endAnswer}
+use Rattle.files.specs.Reader.{OtherNumber, Stopped, More, Whole, wrongNumber, after, endAnswer}
 use Rattle.files.specs.Caller.{Caller, hears, call, hand, together, heardOf, notes}
 use Rattle.files.specs.Cutting.{Numbered, ReadAsJoined, JoinedAsRead}
-use Rattle.files.proofs.Cut.{some-length, all-taken, bytewise, bytewise-append, reading, at-once, ended-bytes, pieces}
+use Rattle.files.proofs.Cut.{some-length, right-number, all-taken, bytewise, bytewise-append, reading, at-once, ended-bytes, pieces}
 
 module _ (sh : Shape) where
   -- the caller when k records were read, and noted in hs, with the bytes h in hand
@@ -55,13 +55,6 @@ module _ (sh : Shape) where
   tested k hs g wrong whole =
       let o = cond wrong (Stopped (OtherNumber k)) (cond whole (Whole sh g) More) in
       hears notes tt hs (after sh k g o) o
-
-  right-number : (k : ℕ) (g : List ℕ) → 4 ≤ length g → wrongNumber k g ≡ false → numberIn g ≡ suc k
-  right-number k g l t = by-test (eqb (numberIn g) (suc k)) refl (rw (le-leb 4 (length g) l) at t)
-    where
-      by-test : (b : Bool) → eqb (numberIn g) (suc k) ≡ b → not b ≡ false → numberIn g ≡ suc k
-      by-test true e n = eqb-true (numberIn g) (suc k) e
-      by-test false e n = absurd (false≢true (sym n))
 
   -- one byte more in hand, and then the rest
   kept-step :

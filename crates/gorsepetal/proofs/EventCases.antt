@@ -7,7 +7,6 @@ use native.Mathlib.Omega.{arith}
 use borrow.Author.Tests.{eq-eqb, ne-eqb, eqb-true}
 use lib.ListN.{length, take, drop}
 use Rattle.answers.specs.declared.Answer.{Answer}
-use Rattle.answers.specs.declared.Answer.the-variants.{Done, NoRelay}
 use Rattle.answers.specs.Answers.{givenBack}
 use Rattle.lent.specs.Bytes.{Every, Byte}
 use Rattle.lent.proofs.Every.{every-append, every-take, every-drop}

@@ -1,10 +1,10 @@
 -- A record made and taken apart, and taken apart and made again.
-use Prim.Native.Nat.{ℕ, _+_, _*_, _/_, _%_, _<_, _≤_}
-use mathlib.Core.Path.{_≡_, refl, sym, ap, ap₂, _∙_}
+use Prim.Native.Nat.{ℕ, _+_, _*_, _/_, _%_, _<_}
+use mathlib.Core.Path.{_≡_, ap, ap₂, _∙_}
 use mathlib.Core.List.{List, [], _∷_, _++_}
 use native.Mathlib.Omega.{arith}
-use lib.ListN.{length, take, drop}
-use lib.Seq.{take-all, take-length}
+use lib.ListN.{length, take}
+use lib.Seq.{take-all}
 use Rattle.lent.specs.Bytes.{Every, Byte}
 use Rattle.samples.specs.Window.{channels}
 use Rattle.records.specs.Record.{wordAt, fourBytes, swapped, narrow, recordLength, numberIn, timeIn, frameIn, recordOf}

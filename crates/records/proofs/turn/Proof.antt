@@ -1,5 +1,5 @@
 -- `records::turn` meets its contract. The invariant: the channels passed so far are written with their bytes exchanged.
-use Prim.Native.Nat.{_+_, _*_, _-_, _≤_}
+use Prim.Native.Nat.{_*_, _-_, _≤_}
 use mathlib.Core.Path.{_≡_, refl, _∙_}
 use native.Mathlib.Omega.{arith}
 use borrow.Author.Needs.{needs}
