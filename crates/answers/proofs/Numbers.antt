@@ -35,12 +35,13 @@ done-zero a t = rw (done-is a t)
 pub refused-not-zero : (a : Answer) → isDone a ≡ false → givenBack a ≡ 0 → ⊥
 refused-not-zero a t z = false≢true (sym t ∙ rw (zero-is a z))
 
+-- a test that cannot hold
+pub else-false : (b : Bool) → (b ≡ true → ⊥) → b ≡ false
+else-false true f = absurd (f refl)
+else-false false f = refl
+
 pub not-zero-refused : (a : Answer) → (givenBack a ≡ 0 → ⊥) → isDone a ≡ false
-not-zero-refused a f = by-test (isDone a) refl
-  where
-    by-test : (b : Bool) → isDone a ≡ b → b ≡ false
-    by-test true t = absurd (f (done-zero a t))
-    by-test false t = refl
+not-zero-refused a f = else-false (isDone a) (λ t. f (done-zero a t))
 
 pub number-small : (a : Answer) → number a < 256
 number-small Done = omega arith

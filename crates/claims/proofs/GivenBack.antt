@@ -10,7 +10,7 @@ use lib.ListN.{length}
 use Rattle.whole.specs.Exactly.{Exactly}
 use Rattle.answers.specs.declared.Answer.the-variants.{Done, NoSettings, OtherWindowLength, NoRoom, OtherEntryLength, NothingPending, NoRelay}
 use Rattle.answers.specs.Answers.{givenBack, isDone, ifDone}
-use Rattle.answers.proofs.Numbers.{done-is}
+use Rattle.answers.proofs.Numbers.{done-is, else-false}
 use Rattle.lent.specs.declared.Agreement.{Agreement}
 use Rattle.lent.specs.declared.Agreement.the-variants.{Same, Differ}
 use Rattle.lent.specs.Lent.{firstDifference}
@@ -54,11 +54,7 @@ pub not-accepted : (r : List ℕ) → isDone (verdict r) ≡ false → GoodRecor
 not-accepted r t a = false≢true (sym t ∙ ap isDone a)
 
 pub refused : (r : List ℕ) → (GoodRecord r → ⊥) → isDone (verdict r) ≡ false
-refused r f = by-test (isDone (verdict r)) refl
-  where
-    by-test : (b : Bool) → isDone (verdict r) ≡ b → b ≡ false
-    by-test true t = absurd (f (accepted r t))
-    by-test false t = refl
+refused r f = else-false (isDone (verdict r)) (λ t. f (accepted r t))
 
 -- ---- propose
 

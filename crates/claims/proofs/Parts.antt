@@ -6,10 +6,9 @@ use native.Mathlib.Omega.{arith}
 use lib.ListN.{length, take, drop, getD, length-append}
 use lib.Seq.{take-take, drop-drop, getD-drop}
 use Rattle.lent.specs.Lent.{over}
-use Rattle.lent.proofs.Over.{over-before, over-behind, over-length}
+use Rattle.lent.proofs.Over.{over-before, over-behind, over-length, take-drop}
 use Rattle.samples.specs.Window.{numbersOf}
 use Rattle.stream.specs.Stored.{numberBytes, storedLength}
-use Rattle.stream.proofs.Moving.{take-drop}
 use Rattle.entry.specs.Pair.{Pair}
 use Rattle.entry.proofs.Done.{FullPair}
 use Rattle.gorsepetal.specs.State.{stateLength, windowOffset, settingsOf, withSettings, windowOf}

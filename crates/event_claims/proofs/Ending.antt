@@ -8,33 +8,27 @@ use native.Mathlib.Omega.{arith}
 use borrow.Author.Tests.{eq-eqb, ne-eqb, eqb-true}
 use lib.ListN.{length}
 use Rattle.answers.specs.Answers.{givenBack}
+use Rattle.answers.proofs.Numbers.{else-false}
 use Rattle.answers.specs.declared.Answer.the-variants.{NoRelay}
-use Rattle.records.specs.Record.{Shape, goodFile, narrow, frameIn}
+use Rattle.records.specs.Record.{goodFile, narrow, frameIn}
 use Rattle.records.proofs.Writing.{both}
 use Rattle.files.specs.Reader.{Ending, BadFile, OtherNumber, InsideRecord, answerOf, Reader, Ended, Reading, Outcome, Stopped, More, Whole, wanted, refusal, readOutcome, readNext, endAnswer, endNext}
 use Rattle.files.proofs.Cut.{some-length, always-wants}
 use Rattle.files.proofs.Known.{caller-knows}
 use Rattle.events.specs.Slice.{readerLength, isReader, isReading, readerOf, wantedIn, readLeft, shapeIn, indexIn, handIn}
 use Rattle.events.proofs.Standing.{held-is, ended-is, slice-fits}
-use Rattle.events.proofs.Next.{opened-reads, read-reads, read-length, end-reads, read-shows}
+use Rattle.events.proofs.Next.{opened-reads, read-left, end-reads, read-shows}
 use Rattle.gorsepetal.specs.State.{stateLength}
 use Rattle.gorsepetal.specs.Calls.{isRelay}
 use Rattle.gorsepetal.specs.EventFiles.{bothLent, pieceOutcome, handed, answerBy, EventsOpened, EventsRead, EventsEnded}
-use Rattle.gorsepetal.proofs.EventCases.{both-lent, Hands, nothing, a-frame, hands}
+use Rattle.gorsepetal.proofs.EventCases.{both-lent, Handed, whole, handed-is, Hands, nothing, a-frame, hands}
 use Rattle.claims.specs.GivenBack.{FeedRow}
 use Rattle.claims.specs.GivenBack as feed-row
 use Rattle.claims.proofs.Frames.{feed-answers, refused-feed}
 use Rattle.event_claims.specs.Ending.{RefusalsEnd, SameRefusal, FeedDoesNotEnd, ZeroMeans, RefusedRead, NoReaderNoChange}
 
--- ---- the slices that were lent
-
-lent-relay : (s r : List ℕ) → bothLent s r ≡ true → length s ≡ stateLength
-lent-relay s r t = eqb-true (length s) stateLength (both (isRelay s) (isReader r) t .0)
-
 lent-reader : (s r : List ℕ) → bothLent s r ≡ true → length r ≡ readerLength
 lent-reader s r t = eqb-true (length r) readerLength (both (isRelay s) (isReader r) t .1)
-
--- ---- refusals end the reading
 
 -- feed gives no 12
 not-12 : (s f out : List ℕ) (n i : ℕ) → FeedRow s f out n → n ≡ 256 * i + 12 → ⊥
@@ -84,7 +78,7 @@ refusals-end s r p out ends status i s₁ r₁ out₁ = (opening, reading, endin
       where
         by-outcome : bothLent s r ≡ true → (o : Outcome) → pieceOutcome r p ≡ o → 256 * i + 12 ≡ givenBack (answerBy o s out) → readerOf r₁ ≡ Ended (OtherNumber i)
         by-outcome t (Stopped e) u z =
-            ap readerOf (c .reader ∙ rw t) ∙ read-reads r p (lent-reader s r t) ∙ stopped-next (readerOf r) p e u ∙ ap Ended (by-12 e i z)
+            ap readerOf (c .reader ∙ rw t) ∙ read-left r p (lent-reader s r t) .0 ∙ stopped-next (readerOf r) p e u ∙ ap Ended (by-12 e i z)
         by-outcome t More u z = absurd (omega arith)
         by-outcome t (Whole sh g) u z =
             let f = frameIn (sh .ends) g in
@@ -101,15 +95,9 @@ refusals-end s r p out ends status i s₁ r₁ out₁ = (opening, reading, endin
         by-test true t z = ap readerOf (c .reader ∙ rw t) ∙ end-reads r (eqb-true (length r) readerLength t) ∙ by-11 (endNext (readerOf r)) i z
         by-test false t z = absurd (omega arith)
 
--- ---- an ended reading
-
 -- its slice is no reading
 is-ended : (r : List ℕ) (e : Ending) → readerOf r ≡ Ended e → isReading r ≡ false
-is-ended r e u = by-test (isReading r) refl
-  where
-    by-test : (b : Bool) → isReading r ≡ b → b ≡ false
-    by-test true y = let other = sym (held-is r y) ∙ u in let z : _≡_ {A = ℕ} 0 1 = cc in absurd (omega arith)
-    by-test false y = refl
+is-ended r e u = else-false (isReading r) (λ y. let other = sym (held-is r y) ∙ u in let z : _≡_ {A = ℕ} 0 1 = cc in omega arith)
 
 pub same-refusal : SameRefusal
 same-refusal s r p out e n s₁ r₁ out₁ l m u =
@@ -120,35 +108,18 @@ same-refusal s r p out e n s₁ r₁ out₁ l m u =
       λ c. (c .given ∙ rw (q, u), c .reader ∙ rw (q, y)),
     )
 
--- ---- a frame that is handed on
-
-data Handed (s r p f : List ℕ) : Type 0 where
-  whole : bothLent s r ≡ true → (sh : Shape) (g : List ℕ) → pieceOutcome r p ≡ Whole sh g → Handed s r p f
-
-handed-is : (s r p f : List ℕ) → handed s r p ≡ f ∷ [] → Handed s r p f
-handed-is s r p f e = by-test (bothLent s r) refl (pieceOutcome r p) refl
-  where
-    by-test : (b : Bool) → bothLent s r ≡ b → (o : Outcome) → pieceOutcome r p ≡ o → Handed s r p f
-    by-test false t o u = let none = rw t at e in let z : _≡_ {A = ℕ} 0 1 = cc in absurd (omega arith)
-    by-test true t (Stopped x) u = let none = rw (t, u) at e in let z : _≡_ {A = ℕ} 0 1 = cc in absurd (omega arith)
-    by-test true t More u = let none = rw (t, u) at e in let z : _≡_ {A = ℕ} 0 1 = cc in absurd (omega arith)
-    by-test true t (Whole sh g) u = whole t sh g u
-
 pub feed-does-not-end : FeedDoesNotEnd
 feed-does-not-end s r p out f n s₁ r₁ out₁ c e = on (handed-is s r p f e)
   where
     on : Handed s r p f → 0 < wantedIn r₁
-    on (whole t sh g u) =
-        let m = lent-reader s r t in
+    on (whole l m sh g u same) =
         let k = read-shows r p sh g m u in
         let h = held-is r (k .reading) in
-        let left : r₁ ≡ readLeft r p = c .reader ∙ rw t in
+        let left : r₁ ≡ readLeft r p = c .reader ∙ rw (both-lent s r l m) in
         let next : readNext (readerOf r) p ≡ Reading (shapeIn r) (suc (indexIn r)) [] = let w = rw h at u in rw (h, w) in
         let wants : wantedIn r₁ ≡ wanted (Reading (shapeIn r) (suc (indexIn r)) []) =
-        ap wantedIn left ∙ rw (eq-eqb (length (readLeft r p)) readerLength (read-length r p m), read-reads r p m, next) in
+        ap wantedIn left ∙ rw (eq-eqb (length (readLeft r p)) readerLength (read-left r p m .1), read-left r p m .0, next) in
         omega (arith, wants, some-length (shapeIn r))
-
--- ---- what 0 means
 
 pub zero-means : ZeroMeans
 zero-means s r p out s₁ r₁ out₁ c = by-test (bothLent s r) refl (pieceOutcome r p) refl (c .given)
@@ -175,8 +146,6 @@ zero-means s r p out s₁ r₁ out₁ c = by-test (bothLent s r) refl (pieceOutc
         let m = lent-reader s r t in
         let same : wantedIn r ≡ wanted (readerOf r) = rw (eq-eqb (length r) readerLength m) in
         (λ few. absurd (caller-knows (readerOf r) p (slice-fits r m) .fewer (omega (arith, same, few)) sh g u), λ all. (frameIn (sh .ends) g, rw (t, u)))
-
--- ---- refusals leave the buffer, and 17 everything
 
 pub refused-read : RefusedRead
 refused-read s r p out n s₁ r₁ out₁ c not-0 = by-hands (hands s r p out)

@@ -1,14 +1,14 @@
--- The caller of the C functions goes along with the caller of the definitions: the slice is the reader, and what is heard by what the calls give back
--- and leave is what the outcome of each piece says.
+-- The caller of the C functions goes along with that of the definitions: the slice is the reader, and both hear the same of each piece.
 use Prim.Native.Nat.{ℕ, _*_, _-_, _<_}
 use mathlib.Core.Path.{_≡_, refl, sym, ap, _∙_}
-use mathlib.Core.List.{List, [], _∷_, _++_, append-nil}
+use mathlib.Core.List.{List, [], _∷_, append-nil}
 use mathlib.Core.Bool.{Bool, true, false, cond}
 use native.Mathlib.Omega.{arith}
 use borrow.Author.Tests.{eq-eqb, ne-eqb, leb-true, leb-false}
 use lib.Dec.{eqb, leb}
 use lib.ListN.{length, take, drop}
 use Rattle.answers.specs.Answers.{givenBack}
+use Rattle.answers.proofs.Numbers.{else-false}
 use Rattle.samples.specs.Window.{channels}
 use Rattle.records.specs.Record.{Shape, timeIn, frameIn}
 use Rattle.files.specs.Reader.{answerOf, Reader, Reading, Outcome, Stopped, More, Whole, wanted, after, inHand, readOutcome, readNext, Fits}
@@ -19,13 +19,13 @@ use Rattle.files.proofs.Follow.{follow, follow-ok}
 use Rattle.files.proofs.Known.{caller-knows}
 use Rattle.events.specs.Slice.{readerLength, isReading, readerOf, wantedIn, readLeft, frameShown, shapeIn, indexIn, handIn}
 use Rattle.events.proofs.Standing.{held-is, ended-is, slice-fits}
-use Rattle.events.proofs.Next.{read-reads, read-length, read-shows}
+use Rattle.events.proofs.Next.{read-left, read-shows}
 use Rattle.gorsepetal.specs.State.{stateLength}
 use Rattle.gorsepetal.specs.Calls.{feedAnswer, feedState, feedOut}
-use Rattle.gorsepetal.specs.EventFiles.{bothLent, pieceOutcome, readAnswer, readState, readReader, readOut}
+use Rattle.gorsepetal.specs.EventFiles.{bothLent, pieceOutcome, readState, readReader}
 use Rattle.gorsepetal.proofs.EventCases.{both-lent}
 use Rattle.claims.proofs.Unmoved.{read-leaves-settings}
-use Rattle.event_claims.specs.Caller.{Told, fed, refused, Lent, heardBy, readOnce, readPieces}
+use Rattle.event_claims.specs.Caller.{Told, fed, refused, Lent, called, readOnce, readPieces}
 
 -- what is done with a whole record: its frame is fed
 abbrev pub feeds : Hears (List ℕ × List ℕ) Told
@@ -54,15 +54,9 @@ ok-next c p k = by-test (eqb (wantedIn (c .reader)) 0)
     relay = read-leaves-settings (c .relay) (c .reader) p (c .out) _ _ _ _ (k .0) (record { given = refl; state = refl; reader = refl; buffer = refl }) .0
 
     reader : length (readReader (c .relay) (c .reader) p) ≡ readerLength
-    reader = rw (both-lent (c .relay) (c .reader) (k .0) (k .1)) (read-length (c .reader) p (k .1))
+    reader = rw (both-lent (c .relay) (c .reader) (k .0) (k .1)) (read-left (c .reader) p (k .1) .1)
 
-    by-test :
-        (b : Bool) → Ok (cond b c (record {
-          relay = readState (c .relay) (c .reader) p (c .out);
-          reader = readReader (c .relay) (c .reader) p;
-          out = readOut (c .relay) (c .reader) p (c .out);
-          heard = c .heard ++ heardBy (wantedIn (c .reader)) p (givenBack (readAnswer (c .relay) (c .reader) p (c .out))) (readReader (c .relay) (c .reader) p) (readOut (c .relay) (c .reader) p (c .out));
-        }))
+    by-test : (b : Bool) → Ok (cond b c (called c p))
     by-test true = k
     by-test false = (relay, reader)
 
@@ -93,10 +87,10 @@ module _ (c : Lent) (p : List ℕ) (k : Ok c) (y : isReading (c .reader) ≡ tru
   wants-more = ne-eqb (wantedIn r) 0 (λ z. omega (arith, same-wants c k, wanted-some))
 
   next : readerOf (readLeft r p) ≡ readNext (readerOf r) p
-  next = read-reads r p (k .1)
+  next = read-left r p (k .1) .0
 
   left-wants : wantedIn (readLeft r p) ≡ wanted (readNext (readerOf r) p)
-  left-wants = rw (eq-eqb (length (readLeft r p)) readerLength (read-length r p (k .1)), next)
+  left-wants = rw (eq-eqb (length (readLeft r p)) readerLength (read-left r p (k .1) .1), next)
 
   after-is : (o : Outcome) → pieceOutcome r p ≡ o → readNext (readerOf r) p ≡ after (shapeIn r) (indexIn r) (inHand (shapeIn r) (handIn r) p) o
   after-is o u = let e = held-is r y in rw e (ap (after (shapeIn r) (indexIn r) (inHand (shapeIn r) (handIn r) p)) (rw e at u))
@@ -104,10 +98,7 @@ module _ (c : Lent) (p : List ℕ) (k : Ok c) (y : isReading (c .reader) ≡ tru
   knows : Knows (readerOf r) p
   knows = caller-knows (readerOf r) p fits
 
-  by-outcome :
-      (o : Outcome) → pieceOutcome r p ≡ o →
-      seen (record { relay = readState s r p out; reader = readReader s r p; out = readOut s r p out; heard = c .heard ++ heardBy (wantedIn r) p (givenBack (readAnswer s r p out)) (readReader s r p) (readOut s r p out) })
-      ≡ hears feeds (s, out) (c .heard) (readNext (readerOf r) p) o
+  by-outcome : (o : Outcome) → pieceOutcome r p ≡ o → seen (called c p) ≡ hears feeds (s, out) (c .heard) (readNext (readerOf r) p) o
   by-outcome (Stopped e) u =
       let zero : eqb (wantedIn (readLeft r p)) 0 ≡ true = eq-eqb (wantedIn (readLeft r p)) 0 (left-wants ∙ ap wanted (after-is (Stopped e) u)) in
       rw (lent, u, zero, next)
@@ -115,12 +106,8 @@ module _ (c : Lent) (p : List ℕ) (k : Ok c) (y : isReading (c .reader) ≡ tru
       let some : 0 < wanted (readNext (readerOf r) p) =
       rw (after-is More u) (always-wants (shapeIn r) (indexIn r) (inHand (shapeIn r) (handIn r) p) (rw (after-is More u) at (fits-next (readerOf r) p fits))) in
       let not-zero : eqb (wantedIn (readLeft r p)) 0 ≡ false = ne-eqb (wantedIn (readLeft r p)) 0 (λ z. omega (arith, left-wants, some)) in
-      let few : leb (wantedIn r) (length p) ≡ false = fewer (leb (wantedIn r) (length p)) refl in
+      let few = else-false (leb (wantedIn r) (length p)) (λ t. knows .enough wanted-some (rw (← same-wants c k) (leb-true (wantedIn r) (length p) t)) u) in
       rw (lent, u, not-zero, few, next) (ap (λ (hs : List Told). record { state = (s, out); reader = readNext (readerOf r) p; heard = hs }) (append-nil (c .heard)))
-    where
-      fewer : (b : Bool) → leb (wantedIn r) (length p) ≡ b → b ≡ false
-      fewer true t = absurd (knows .enough wanted-some (rw (← same-wants c k) (leb-true (wantedIn r) (length p) t)) u)
-      fewer false t = refl
   by-outcome (Whole sh g) u =
       let some : 0 < wanted (readNext (readerOf r) p) = rw (after-is (Whole sh g) u) (omega arith) in
       let not-zero : eqb (wantedIn (readLeft r p)) 0 ≡ false = ne-eqb (wantedIn (readLeft r p)) 0 (λ z. omega (arith, left-wants, some)) in

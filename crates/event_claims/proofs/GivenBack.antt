@@ -1,5 +1,4 @@
--- The rows of the calls for event files. From the number to its row: the tests that the answer is made of are gone through. From the row to the
--- number: each test's outcome is known.
+-- The rows. From the number to its row: the tests that the answer is made of are gone through. And back: each test's outcome is known.
 use Prim.Native.Nat.{ℕ, suc, _+_, _*_, _≤_, _<_}
 use mathlib.Core.Path.{_≡_, refl, sym, _∙_}
 use mathlib.Core.List.{List, [], _∷_}
@@ -10,9 +9,10 @@ use lib.Dec.{eqb, leb, ltb}
 use lib.ListN.{length}
 use Rattle.answers.specs.declared.Answer.the-variants.{Done, NoRoom, OtherFrameLength, OtherNumber, BadFile, NoRelay}
 use Rattle.answers.specs.Answers.{givenBack}
+use Rattle.answers.proofs.Numbers.{else-false}
 use Rattle.samples.specs.Window.{channels}
 use Rattle.records.specs.Record.{Shape, goodEnds, goodFile, narrow, recordLength, numberIn, frameIn}
-use Rattle.records.proofs.Writing.{good-ends}
+use Rattle.records.proofs.Writing.{good-ends, good-file}
 use Rattle.files.specs.Reader.{Reader, Ended, Reading, Stopped, More, Whole, opened, refusal, wrongNumber, outcome, inHand, endAnswer}
 use Rattle.files.specs.Reader as reader
 use Rattle.files.proofs.Cut.{some-length, right-number}
@@ -25,8 +25,6 @@ use Rattle.claims.proofs.GivenBack.{both, relay, no-relay}
 use Rattle.claims.proofs.Frames.{feed-answers}
 use Rattle.event_claims.specs.GivenBack.{GoodEnds, GoodFile, NoReader, OpenRow, ReadRow, EndRow, WriteRow, EventsOpenAnswers, EventsReadAnswers, EventsEndAnswers, EventsWriteAnswers}
 use Rattle.event_claims.specs.GivenBack as row
-
--- ---- the tests that the rows share
 
 is-reader : (r : List ℕ) → isReader r ≡ true → length r ≡ readerLength
 is-reader r t = eqb-true (length r) readerLength t
@@ -41,34 +39,22 @@ are-ends : (ends : ℕ) → GoodEnds ends → goodEnds ends ≡ true
 are-ends ends g = rw (le-leb 2 ends (g .fewest), le-leb ends 6 (g .most))
 
 not-ends : (ends : ℕ) → (GoodEnds ends → ⊥) → goodEnds ends ≡ false
-not-ends ends n = by-test (goodEnds ends) refl
-  where
-    by-test : (b : Bool) → goodEnds ends ≡ b → b ≡ false
-    by-test true t = absurd (n (ends-are ends t))
-    by-test false t = refl
+not-ends ends n = else-false (goodEnds ends) (λ t. n (ends-are ends t))
 
 pub file-is : (ends status : ℕ) → GoodFile ends status → goodFile ends status ≡ true
 file-is ends status g = rw (are-ends ends (g .good-ends), le-leb status 96 (g .few-enough))
 
-is-file : (ends status : ℕ) (a b : Bool) → goodEnds ends ≡ a → leb status 96 ≡ b → (a && b) ≡ true → GoodFile ends status
-is-file ends status true true t u e = record { good-ends = ends-are ends t; few-enough = leb-true status 96 u }
-is-file ends status true false t u e = absurd (false≢true e)
-is-file ends status false b t u e = absurd (false≢true e)
+is-file : (ends status : ℕ) → goodFile ends status ≡ true → GoodFile ends status
+is-file ends status t = let h = good-file ends status t in record { good-ends = record { fewest = h .0; most = h .1 }; few-enough = h .2 }
 
 not-file : (ends status : ℕ) → (GoodFile ends status → ⊥) → goodFile ends status ≡ false
-not-file ends status n = by-test (goodFile ends status) refl
-  where
-    by-test : (b : Bool) → goodFile ends status ≡ b → b ≡ false
-    by-test true t = absurd (n (is-file ends status (goodEnds ends) (leb status 96) refl refl t))
-    by-test false t = refl
-
--- ---- open
+not-file ends status n = else-false (goodFile ends status) (λ t. n (is-file ends status t))
 
 open-row : (r : List ℕ) (ends status : ℕ) (a b : Bool) → isReader r ≡ a → goodFile ends status ≡ b →
     OpenRow r ends status (givenBack (cond a (refusal (cond b (Reading (narrow ends status) 0 []) (Ended reader.BadFile))) NoRelay))
 open-row r ends status false b t u = row.OpenRow.no-reader (not-reader r t)
 open-row r ends status true false t u = row.OpenRow.bad-file (is-reader r t) (λ g. false≢true (sym u ∙ file-is ends status g))
-open-row r ends status true true t u = row.OpenRow.done (is-reader r t) (is-file ends status (goodEnds ends) (leb status 96) refl refl u)
+open-row r ends status true true t u = row.OpenRow.done (is-reader r t) (is-file ends status u)
 
 row-open : (r : List ℕ) (ends status m : ℕ) → OpenRow r ends status m → givenBack (cond (isReader r) (refusal (opened (narrow ends status))) NoRelay) ≡ m
 row-open r ends status m (row.OpenRow.no-reader l) = rw (ne-eqb (length r) readerLength l)
@@ -77,8 +63,6 @@ row-open r ends status m (row.OpenRow.done l g) = rw (eq-eqb (length r) readerLe
 
 pub events-open-answers : EventsOpenAnswers
 events-open-answers r ends status n r₁ c = both _ (c .given) (open-row r ends status (isReader r) (goodFile ends status) refl refl) (row-open r ends status)
-
--- ---- end
 
 end-row : (r : List ℕ) (a : Bool) (x : Reader) → isReader r ≡ a → readerOf r ≡ x → EndRow r (givenBack (cond a (endAnswer x) NoRelay))
 end-row r false x t u = row.EndRow.no-reader (not-reader r t)
@@ -98,8 +82,6 @@ row-end r m (row.EndRow.done l sh i u) = rw (eq-eqb (length r) readerLength l, u
 
 pub events-end-answers : EventsEndAnswers
 events-end-answers r n r₁ c = both _ (c .given) (end-row r (isReader r) (readerOf r) refl refl) (row-end r)
-
--- ---- write
 
 module _ (ends written : ℕ) (f out : List ℕ) where
   write-row :
@@ -127,8 +109,6 @@ events-write-answers ends written time f out n out₁ c =
     both _ (c .given)
     (write-row ends written f out (goodEnds ends) (eqb (length f) (2 * channels ends)) (leb (recordLength (narrow ends 0)) (length out)) (ltb written 4294967295) refl refl refl refl)
     (row-write ends written f out)
-
--- ---- read
 
 module _ (s r p out : List ℕ) where
   -- the row of feed that a whole record's frame is in

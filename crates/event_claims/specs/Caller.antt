@@ -29,18 +29,21 @@ abbrev pub heardBy : (w : ℕ) (piece : List ℕ) (given : ℕ) (r₁ out₁ : L
 heardBy w piece given r₁ out₁ =
     cond (eqb (wantedIn r₁) 0) (refused given out₁ ∷ []) (cond (leb w (length piece)) (fed given out₁ (timeShown r₁) (frameShown r₁) ∷ []) [])
 
--- One call of read; and none where nothing is wanted: the refusal that ended the reading is heard once.
-abbrev pub readOnce : Lent → List ℕ → Lent
-readOnce c p =
+-- One call of read;
+abbrev pub called : Lent → List ℕ → Lent
+called c p =
     let r₁ = readReader (c .relay) (c .reader) p in
     let out₁ = readOut (c .relay) (c .reader) p (c .out) in
-    cond (eqb (wantedIn (c .reader)) 0) c
-    (record {
+    record {
       relay = readState (c .relay) (c .reader) p (c .out);
       reader = r₁;
       out = out₁;
       heard = c .heard ++ heardBy (wantedIn (c .reader)) p (givenBack (readAnswer (c .relay) (c .reader) p (c .out))) r₁ out₁;
-    })
+    }
+
+-- and none where nothing is wanted: the refusal that ended the reading is heard once.
+abbrev pub readOnce : Lent → List ℕ → Lent
+readOnce c p = cond (eqb (wantedIn (c .reader)) 0) c (called c p)
 
 -- A file in pieces, each handed again until all of it is taken.
 abbrev pub readPieces : Lent → List (List ℕ) → Lent

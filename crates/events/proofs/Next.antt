@@ -1,5 +1,4 @@
--- What the reader is that a call leaves in the slice: what the calls do to the bytes is what the definitions say of the reader. And a whole record is
--- what the slice shows.
+-- What the calls do to the bytes is what the definitions say of the reader; and a whole record is what the slice shows.
 use Prim.Native.Nat.{ℕ, suc, _+_, _*_, _-_, _<_, _≤_}
 use mathlib.Core.Path.{_≡_, refl, sym, ap, ap₂, _∙_}
 use mathlib.Core.List.{List, [], _∷_, _++_}
@@ -36,12 +35,9 @@ unfolding wordAt
 index-same s t byte = rw (byte 4 (omega arith) (omega arith), byte 5 (omega arith) (omega arith), byte 6 (omega arith) (omega arith), byte 7 (omega arith) (omega arith))
 
 -- one byte written
-set-other : (s : List ℕ) (i v k : ℕ) → (k ≡ i → ⊥) → getD (set s i v) k 0 ≡ getD s k 0
-set-other s i v k n = getD-set-other s i k v 0 n
-
 now-ended : (s : List ℕ) (v : ℕ) → length s ≡ readerLength → (v ≡ 0 → ⊥) → readerOf (set s 2 v) ≡ Ended (endedBy v (indexIn s))
 now-ended s v l n =
-    ended (set s 2 v) v (indexIn s) (getD-set-same s 2 v 0 (omega arith)) n (index-same s (set s 2 v) (λ k a b. set-other s 2 v k (λ e. omega arith)))
+    ended (set s 2 v) v (indexIn s) (getD-set-same s 2 v 0 (omega arith)) n (index-same s (set s 2 v) (λ k a b. getD-set-other s 2 k v 0 (λ e. omega arith)))
 
 -- ---- open
 
@@ -97,7 +93,7 @@ module _ (s piece : List ℕ) (l : length s ≡ readerLength) (y : isReading s �
       let h = holds s y in
       let n : ℕ = heldIn s + length piece in
       let u : List ℕ = set t 3 n in
-      let byte : (k : ℕ) → k < 56 → (k ≡ 3 → ⊥) → getD u k 0 ≡ getD s k 0 = λ k a b. set-other t 3 n k b ∙ t-byte k a in
+      let byte : (k : ℕ) → k < 56 → (k ≡ 3 → ⊥) → getD u k 0 ≡ getD s k 0 = λ k a b. getD-set-other t 3 k n 0 b ∙ t-byte k a in
       reads u (endsIn s) (statusIn s) n (indexIn s) (byte 0 (omega arith) (λ e. omega arith)) (byte 1 (omega arith) (λ e. omega arith))
       (byte 2 (omega arith) (λ e. omega arith) ∙ h .ended) (getD-set-same t 3 n 0 (omega (arith, long)))
       (index-same s u (λ k a b. byte k (omega arith) (λ e. omega arith))) (h .good) (omega (arith, g-length s piece l y room)) ∙
@@ -152,28 +148,18 @@ module _ (s piece : List ℕ) (l : length s ≡ readerLength) (y : isReading s �
       reads f (endsIn s) (statusIn s) 0 (suc (indexIn s)) (f-before 0 (omega arith)) (f-before 1 (omega arith)) (f-before 2 (omega arith) ∙ h .ended)
       (f-front 0 (omega arith)) (f-index ∙ n) (h .good) (omega (arith, some-length (shapeIn s)))
 
-  pub taken-reads : readerOf (takenLeft s piece) ≡ after (shapeIn s) (indexIn s) g (takenOutcome s piece)
+  pub taken-reads : (readerOf (takenLeft s piece) ≡ after (shapeIn s) (indexIn s) g (takenOutcome s piece)) × (length (takenLeft s piece) ≡ readerLength)
   taken-reads = by-test (wrongNumber (indexIn s) g) (leb (recordLength (shapeIn s)) (length g)) refl refl
     where
       by-test :
           (a b : Bool) → wrongNumber (indexIn s) g ≡ a → leb (recordLength (shapeIn s)) (length g) ≡ b →
           let o = cond a (Stopped (OtherNumber (indexIn s))) (cond b (Whole (shapeIn s) g) More) in
-          readerOf (leftBy o (heldIn s + length piece) t) ≡ after (shapeIn s) (indexIn s) g o
-      by-test true b u v = now-ended t 12 long (λ e. omega arith) ∙ ap (λ (n : ℕ). Ended (OtherNumber n)) t-index
+          let left = leftBy o (heldIn s + length piece) t in (readerOf left ≡ after (shapeIn s) (indexIn s) g o) × (length left ≡ readerLength)
+      by-test true b u v = (now-ended t 12 long (λ e. omega arith) ∙ ap (λ (n : ℕ). Ended (OtherNumber n)) t-index, length-set t 2 12 ∙ long)
       by-test false true u v =
-          whole-reads (right-number (indexIn s) g (omega (arith, leb-true (recordLength (shapeIn s)) (length g) v, some-length (shapeIn s))) u)
-      by-test false false u v = more-reads (leb-false (recordLength (shapeIn s)) (length g) v)
-
-  pub taken-length : length (takenLeft s piece) ≡ readerLength
-  taken-length = by-test (wrongNumber (indexIn s) g) (leb (recordLength (shapeIn s)) (length g)) refl
-    where
-      by-test :
-          (a b : Bool) → leb (recordLength (shapeIn s)) (length g) ≡ b →
-          let o = cond a (Stopped (OtherNumber (indexIn s))) (cond b (Whole (shapeIn s) g) More) in
-          length (leftBy o (heldIn s + length piece) t) ≡ readerLength
-      by-test true b v = length-set t 2 12 ∙ long
-      by-test false true v = f-length (leb-true (recordLength (shapeIn s)) (length g) v)
-      by-test false false v = length-set t 3 (heldIn s + length piece) ∙ long
+          let full = leb-true (recordLength (shapeIn s)) (length g) v in
+          (whole-reads (right-number (indexIn s) g (omega (arith, full, some-length (shapeIn s))) u), f-length full)
+      by-test false false u v = (more-reads (leb-false (recordLength (shapeIn s)) (length g) v), length-set t 3 (heldIn s + length piece) ∙ long)
 
 -- a call takes as many bytes as are wanted
 module _ (s piece : List ℕ) (l : length s ≡ readerLength) (y : isReading s ≡ true) where
@@ -189,25 +175,16 @@ module _ (s piece : List ℕ) (l : length s ≡ readerLength) (y : isReading s �
   next-is : readNext (readerOf s) piece ≡ after (shapeIn s) (indexIn s) (handIn s ++ take (wanted (readerOf s)) piece) (takenOutcome s (take (wanted (readerOf s)) piece))
   next-is = rw (held-is s y)
 
-  pub on-reads : readerOf (readLeft s piece) ≡ readNext (readerOf s) piece
-  on-reads = ap (λ (b : Bool). readerOf (cond b (takenLeft s (take (wanted (readerOf s)) piece)) s)) y ∙ taken-reads s (take (wanted (readerOf s)) piece) l y taken-room ∙ sym next-is
-
-  pub on-length : length (readLeft s piece) ≡ readerLength
-  on-length = ap (λ (b : Bool). length (cond b (takenLeft s (take (wanted (readerOf s)) piece)) s)) y ∙ taken-length s (take (wanted (readerOf s)) piece) l y taken-room
-
-pub read-reads : (s piece : List ℕ) → length s ≡ readerLength → readerOf (readLeft s piece) ≡ readNext (readerOf s) piece
-read-reads s piece l = by-test (isReading s) refl
+pub read-left : (s piece : List ℕ) → length s ≡ readerLength → (readerOf (readLeft s piece) ≡ readNext (readerOf s) piece) × (length (readLeft s piece) ≡ readerLength)
+read-left s piece l = by-test (isReading s) refl
   where
-    by-test : (b : Bool) → isReading s ≡ b → readerOf (readLeft s piece) ≡ readNext (readerOf s) piece
-    by-test true y = on-reads s piece l y
-    by-test false y = rw (y, ended-is s y)
-
-pub read-length : (s piece : List ℕ) → length s ≡ readerLength → length (readLeft s piece) ≡ readerLength
-read-length s piece l = by-test (isReading s) refl
-  where
-    by-test : (b : Bool) → isReading s ≡ b → length (readLeft s piece) ≡ readerLength
-    by-test true y = on-length s piece l y
-    by-test false y = rw y l
+    by-test : (b : Bool) → isReading s ≡ b → (readerOf (readLeft s piece) ≡ readNext (readerOf s) piece) × (length (readLeft s piece) ≡ readerLength)
+    by-test true y =
+        let p : List ℕ = take (wanted (readerOf s)) piece in
+        let k = taken-reads s p l y (taken-room s piece l y) in
+        let left : readLeft s piece ≡ takenLeft s p = rw y in
+        (ap readerOf left ∙ k .0 ∙ sym (next-is s piece l y), ap length left ∙ k .1)
+    by-test false y = (rw (y, ended-is s y), rw y l)
 
 -- ---- a whole record is what the slice shows
 

@@ -15,8 +15,6 @@ use Rattle.files.specs.Reader.{Reading, endNext, refusal}
 use Rattle.events.specs.Slice.{readerLength, heldIn, indexIn, shapeIn, handIn, readerOf, Opened, AtEnd}
 use Rattle.events.proofs.Standing.{held-is, ended-is, hand-length, goes-on, has-ended}
 
--- ---- open
-
 abbrev zeros : List ℕ
 zeros = replicate readerLength 0
 
@@ -43,8 +41,6 @@ module _ {ends status : ℕ} {s left : List ℕ} where
         let y = eq-eqb (length s) readerLength l in
         let n = sym g ∙ not-false b t in
         record { answer = rw (y, n); reader = rw (y, n) (ap (λ (q : List ℕ). set (set q 0 ends) 1 status) (k ∙ all-over s zeros l)) }
-
--- ---- end
 
 -- inside a record
 inside : (sh : Shape) (i : ℕ) (h : List ℕ) → 0 < length h → refusal (endNext (Reading sh i h)) ≡ answer.InsideRecord i

@@ -1,4 +1,4 @@
--- Whether a slice is a reading that has not ended, and what it is then and else: each way out of the functions that only look, on plain lists.
+-- Whether a slice is a reading that has not ended, and what it is then and else: each way out of the functions that only look.
 use Prim.Native.Nat.{ℕ, _+_, _*_, _-_, _<_, _≤_}
 use mathlib.Core.Path.{_≡_, refl, sym, ap, _∙_}
 use mathlib.Core.List.{List}

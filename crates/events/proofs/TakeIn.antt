@@ -1,18 +1,17 @@
--- Each way out of taking in a piece, on plain lists. The piece stands behind the bytes in hand, and all that the outcome asks of them can be read
--- where they lie.
+-- Each way out of taking in a piece: it stands behind the bytes in hand, and all that the outcome asks of them is read where they lie.
 use Prim.Native.Nat.{ℕ, _+_, _*_, _-_, _<_, _≤_}
 use mathlib.Core.Path.{_≡_, refl, sym, ap, ap₂, _∙_}
-use mathlib.Core.List.{List, [], _∷_, _++_, append-assoc}
+use mathlib.Core.List.{List, [], _∷_, _++_}
 use mathlib.Core.Bool.{Bool, true, false, not}
 use native.Mathlib.Omega.{arith}
 use native.Mathlib.Numerals.{add-one}
 use borrow.Author.Tests.{le-leb, lt-leb, lt-ltb, le-ltb, leb-true, leb-false}
 use lib.Dec.{eqb, leb}
-use lib.ListN.{length, take, drop, set, getD, replicate, length-append, length-drop, take-append-drop}
-use lib.Seq.{length-take-le, take-at, drop-at, take-add, getD-take, getD-drop, take-append-le, drop-append-le, drop-drop}
+use lib.ListN.{length, take, drop, set, getD, replicate, length-append, length-drop}
+use lib.Seq.{drop-append-le, length-take-le, take-at, getD-take, getD-drop, drop-drop}
 use Rattle.answers.specs.declared.Answer.the-variants as answer
 use Rattle.lent.specs.Lent.{over}
-use Rattle.lent.proofs.Over.{over-length, over-read}
+use Rattle.lent.proofs.Over.{over-length, over-read, part-front, take-drop}
 use Rattle.samples.specs.Window.{channels}
 use Rattle.records.specs.Record.{wordAt, swapped, narrow, recordLength, numberIn, frameIn}
 use Rattle.records.proofs.Swapped.{swapped-length}
@@ -75,17 +74,13 @@ hand-byte s k = sym (getD-drop 56 s k 0)
 
 hand-over : (s : List ℕ) (base held : ℕ) (piece : List ℕ) → base + held ≤ length s → take (held + length piece) (drop base (over s (base + held) piece)) ≡ take held (drop base s) ++ piece
 hand-over s base held piece room =
-    let h : List ℕ = take held (drop base s) in
     let r : List ℕ = drop (base + held + length piece) s in
-    let lb : length (take base s) ≡ base = length-take-le base s (omega arith) in
-    let lh : length h ≡ held = length-take-le held (drop base s) (simp length-drop (omega arith)) in
-    let whole : over s (base + held) piece ≡ take base s ++ ((h ++ piece) ++ r) =
-    ap (λ (t : List ℕ). t ++ piece ++ r) (take-add base held s) ∙
-    ap (λ (t : List ℕ). t ++ r) (append-assoc (take base s) h piece) ∙
-    append-assoc (take base s) (h ++ piece) r in
-    ap (λ (t : List ℕ). take (held + length piece) (drop base t)) whole ∙
-    ap (take (held + length piece)) (drop-at (take base s) ((h ++ piece) ++ r) base lb) ∙
-    take-at (h ++ piece) r (held + length piece) (length-append h piece ∙ ap (λ (n : ℕ). n + length piece) lh)
+    let h : drop base (take (base + held) s) ≡ take held (drop base s) = sym (take-drop base held s (omega arith)) in
+    let long : length (drop base (take (base + held) s)) ≡ held = simp (length-drop, length-take-le (base + held) s room) (omega arith) in
+    ap (take (held + length piece)) (drop-append-le base (take (base + held) s ++ piece) r (simp (length-append, length-take-le (base + held) s room) (omega arith)) ∙
+    ap (λ (q : List ℕ). q ++ r) (drop-append-le base (take (base + held) s) piece (simp (length-take-le (base + held) s room) (omega arith)))) ∙
+    take-at (drop base (take (base + held) s) ++ piece) r (held + length piece) (length-append (drop base (take (base + held) s)) piece ∙ ap (λ (n : ℕ). n + length piece) long) ∙
+    ap (λ (q : List ℕ). q ++ piece) h
 
 module _ (s piece : List ℕ) (l : length s ≡ readerLength) (y : isReading s ≡ true) (room : heldIn s + length piece ≤ recordLength (shapeIn s)) where
   abbrev pub t : List ℕ
@@ -140,16 +135,8 @@ module _ (s piece : List ℕ) (l : length s ≡ readerLength) (y : isReading s �
 
   g-frame : 8 + 2 * channels (endsIn s) ≤ heldIn s + length piece → frameIn (endsIn s) (drop 56 t) ≡ frameIn (endsIn s) g
   g-frame h =
-      let n : ℕ = heldIn s + length piece in
-      let m : ℕ = 2 * channels (endsIn s) in
-      let whole : take n (drop 56 t) ++ drop n (drop 56 t) ≡ drop 56 t = take-append-drop n (drop 56 t) in
-      let long : length (take n (drop 56 t)) ≡ n = length-take-le n (drop 56 t) (simp length-drop (omega (arith, t-length, take-fits))) in
-      let past : length (drop 8 (take n (drop 56 t))) ≡ n - 8 = length-drop 8 (take n (drop 56 t)) ∙ ap (λ (k : ℕ). k - 8) long in
-      ap swapped
-      (ap (λ (q : List ℕ). take m (drop 8 q)) (sym whole) ∙
-      ap (take m) (drop-append-le 8 (take n (drop 56 t)) (drop n (drop 56 t)) (omega (arith, long))) ∙
-      take-append-le m (drop 8 (take n (drop 56 t))) (drop n (drop 56 t)) (omega (arith, past)) ∙
-      ap (λ (q : List ℕ). take m (drop 8 q)) in-hand)
+      let front = part-front (drop 56 t) 8 (2 * channels (endsIn s)) (heldIn s + length piece) h (simp length-drop (omega (arith, t-length, take-fits))) in
+      ap swapped (sym front ∙ ap (λ (q : List ℕ). take (2 * channels (endsIn s)) (drop 8 q)) in-hand)
 
   -- what is settled of the slice is the outcome
   pub took :

@@ -1,5 +1,4 @@
--- What is done with the records of a file is what would be done with them by hand: the two callers, one who does and one who only notes, go
--- along byte by byte.
+-- What is done with a file's records is what would be done with them by hand: one who does and one who notes go along byte by byte.
 use Prim.Native.Nat.{ℕ, suc}
 use mathlib.Core.Path.{_≡_, refl, sym, ap, _∙_}
 use mathlib.Core.List.{List, [], _∷_, _++_, append-nil}

@@ -1,52 +1,34 @@
 -- What a caller knows of a call by how many bytes it lent; and the last number there is.
-use Prim.Native.Nat.{ℕ, _+_, _*_, _-_, _<_, _≤_, min}
-use mathlib.Core.Path.{_≡_, refl, sym, ap, _∙_}
+use Prim.Native.Nat.{ℕ, _+_, _*_, _-_, min}
+use mathlib.Core.Path.{_≡_, ap, _∙_}
 use mathlib.Core.List.{List, [], _∷_}
-use mathlib.Core.Bool.{Bool, true, false, cond, true≢false}
+use mathlib.Core.Bool.{Bool, true, false, cond}
 use native.Mathlib.Omega.{arith}
 use borrow.Author.Tests.{le-leb, lt-leb, ne-eqb}
 use lib.ListN.{length, take, length-append, length-take}
 use Rattle.records.specs.Record.{Shape, wordAt, recordLength}
-use Rattle.files.specs.Reader.{OtherNumber, Ended, Reading, Outcome, Stopped, More, Whole, wrongNumber, inHand, readOutcome}
+use Rattle.files.specs.Reader.{OtherNumber, Ended, Reading, Stopped, More, Whole, wrongNumber, inHand}
 use Rattle.files.specs.Cutting.{NoWrap, CallerKnows}
 
-isWhole : Outcome → Bool
-isWhole (Stopped e) = false
-isWhole More = false
-isWhole (Whole sh g) = true
+-- by the two tests, an outcome is neither of the others
+not-whole : (a : Bool) (i : ℕ) (sh : Shape) (g : List ℕ) → cond a (Stopped (OtherNumber i)) More ≡ Whole sh g → ⊥
+not-whole true i sh g k = let z : _≡_ {A = ℕ} 0 1 = cc in omega arith
+not-whole false i sh g k = let z : _≡_ {A = ℕ} 0 1 = cc in omega arith
 
-isMore : Outcome → Bool
-isMore (Stopped e) = false
-isMore More = true
-isMore (Whole sh g) = false
-
-module _ (sh : Shape) (i : ℕ) (h piece : List ℕ) (f : length h < recordLength sh) where
-  hand-long : length (inHand sh h piece) ≡ length h + min (recordLength sh - length h) (length piece)
-  hand-long = length-append h (take (recordLength sh - length h) piece) ∙ ap (λ (n : ℕ). length h + n) (length-take (recordLength sh - length h) piece)
-
-  not-whole : length piece < recordLength sh - length h → isWhole (readOutcome (Reading sh i h) piece) ≡ false
-  unfolding isWhole
-  not-whole l = rw (lt-leb (recordLength sh) (length (inHand sh h piece)) (omega (arith, hand-long))) (by-test (wrongNumber i (inHand sh h piece)))
-    where
-      by-test : (b : Bool) → isWhole (cond b (Stopped (OtherNumber i)) More) ≡ false
-      by-test true = refl
-      by-test false = refl
-
-  not-more : recordLength sh - length h ≤ length piece → isMore (readOutcome (Reading sh i h) piece) ≡ false
-  unfolding isMore
-  not-more l = rw (le-leb (recordLength sh) (length (inHand sh h piece)) (omega (arith, hand-long))) (by-test (wrongNumber i (inHand sh h piece)))
-    where
-      by-test : (b : Bool) → isMore (cond b (Stopped (OtherNumber i)) (Whole sh (inHand sh h piece))) ≡ false
-      by-test true = refl
-      by-test false = refl
+not-more : (a : Bool) (i : ℕ) (sh : Shape) (g : List ℕ) → cond a (Stopped (OtherNumber i)) (Whole sh g) ≡ More → ⊥
+not-more true i sh g k = let z : _≡_ {A = ℕ} 0 1 = cc in omega arith
+not-more false i sh g k = let z : _≡_ {A = ℕ} 0 1 = cc in omega arith
 
 pub caller-knows : CallerKnows
-unfolding isWhole isMore
 caller-knows (Ended e) piece f = record { fewer = λ l. absurd (omega arith); enough = λ l. absurd (omega arith) }
 caller-knows (Reading sh i h) piece f =
+    let n : ℕ = recordLength sh in
+    let g : List ℕ = inHand sh h piece in
+    let long : length g ≡ length h + min (n - length h) (length piece) =
+    length-append h (take (n - length h) piece) ∙ ap (λ (k : ℕ). length h + k) (length-take (n - length h) piece) in
     record {
-      fewer = λ l s g k. true≢false (sym (ap isWhole k) ∙ not-whole sh i h piece f l);
-      enough = λ p l k. true≢false (sym (ap isMore k) ∙ not-more sh i h piece f l);
+      fewer = λ l s x k. not-whole (wrongNumber i g) i s x (rw (lt-leb n (length g) (omega (arith, long))) at k);
+      enough = λ p l k. not-more (wrongNumber i g) i sh g (rw (le-leb n (length g) (omega (arith, long))) at k);
     }
 
 pub no-wrap : NoWrap

@@ -74,27 +74,32 @@ hands s r p out = by-test (bothLent s r) refl (pieceOutcome r p) refl
     by-test true t More u = nothing (rw (t, u)) (rw (t, u)) (rw (t, u))
     by-test true t (Whole sh g) u = a-frame (frameIn (sh .ends) g) (rw (t, u)) (rw (t, u)) (rw (t, u)) (rw (t, u))
 
--- a frame that is handed on is of bytes, where the reader and the piece are
-pub handed-bytes : (s r p f : List ℕ) → Every Byte r → Every Byte p → handed s r p ≡ f ∷ [] → Every Byte f
-handed-bytes s r p f hr hp e = by-test (bothLent s r) refl (pieceOutcome r p) refl
-  where
-    of-record : (sh : Shape) (g : List ℕ) → length r ≡ readerLength → pieceOutcome r p ≡ Whole sh g → Every Byte (frameIn (sh .ends) g)
-    of-record sh g l o =
-        let k = read-shows r p sh g l o in
-        let n : ℕ = wanted (readerOf r) in
-        let hand = every-take Byte (heldIn r) (drop handAt r) (every-drop Byte handAt r hr) in
-        let all : Every Byte (handIn r ++ take n p) = every-append Byte (handIn r) (take n p) hand (every-take Byte n p hp) in
-        swapped-bytes _ (every-take Byte (2 * channels (sh .ends)) (drop 8 g) (every-drop Byte 8 g (rw (k .joined) all)))
+-- where a frame is handed on, both slices were lent and a record is whole
+pub data Handed (s r p f : List ℕ) : Type 0 where
+  whole : length s ≡ stateLength → length r ≡ readerLength → (sh : Shape) (g : List ℕ) → pieceOutcome r p ≡ Whole sh g → frameIn (sh .ends) g ≡ f → Handed s r p f
 
-    by-test : (b : Bool) → bothLent s r ≡ b → (o : Outcome) → pieceOutcome r p ≡ o → Every Byte f
+pub handed-is : (s r p f : List ℕ) → handed s r p ≡ f ∷ [] → Handed s r p f
+handed-is s r p f e = by-test (bothLent s r) refl (pieceOutcome r p) refl
+  where
+    by-test : (b : Bool) → bothLent s r ≡ b → (o : Outcome) → pieceOutcome r p ≡ o → Handed s r p f
     by-test false t o u = let none = rw t at e in let z : _≡_ {A = ℕ} 0 1 = cc in absurd (omega arith)
     by-test true t (Stopped x) u = let none = rw (t, u) at e in let z : _≡_ {A = ℕ} 0 1 = cc in absurd (omega arith)
     by-test true t More u = let none = rw (t, u) at e in let z : _≡_ {A = ℕ} 0 1 = cc in absurd (omega arith)
     by-test true t (Whole sh g) u =
         let one : frameIn (sh .ends) g ∷ [] ≡ f ∷ [] = rw (t, u) at e in
-        let same : frameIn (sh .ends) g ≡ f = cc in
-        let l = eqb-true (length r) readerLength (both (isRelay s) (isReader r) t .1) in
-        rw (← same) (of-record sh g l u)
+        let k = both (isRelay s) (isReader r) t in
+        whole (eqb-true (length s) stateLength (k .0)) (eqb-true (length r) readerLength (k .1)) sh g u cc
+
+-- such a frame is of bytes, where the reader and the piece are
+pub handed-bytes : (s r p f : List ℕ) → Every Byte r → Every Byte p → handed s r p ≡ f ∷ [] → Every Byte f
+handed-bytes s r p f hr hp e = of-record (handed-is s r p f e)
+  where
+    of-record : Handed s r p f → Every Byte f
+    of-record (whole l m sh g u same) =
+        let n : ℕ = wanted (readerOf r) in
+        let hand = every-take Byte (heldIn r) (drop handAt r) (every-drop Byte handAt r hr) in
+        let all : Every Byte (handIn r ++ take n p) = every-append Byte (handIn r) (take n p) hand (every-take Byte n p hp) in
+        rw (← same) (swapped-bytes _ (every-take Byte (2 * channels (sh .ends)) (drop 8 g) (every-drop Byte 8 g (rw (read-shows r p sh g m u .joined) all))))
 
 -- the frame that the slice shows is the record's
 shown :

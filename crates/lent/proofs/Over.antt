@@ -7,7 +7,7 @@ use native.Mathlib.Nat.{add-assoc}
 use native.Mathlib.Omega.{arith}
 use native.Mathlib.Numerals.{add-one}
 use lib.ListN.{length, take, drop, set, getD, List·getD-append, length-append, length-drop, take-append-drop}
-use lib.Seq.{sets-eq, paste-zero, getD-take, getD-append-add, length-take-le, take-at, drop-at, drop-drop, take-add, take-append-seam, drop-append-add}
+use lib.Seq.{sets-eq, paste-zero, getD-take, getD-append-add, length-take-le, take-at, drop-at, drop-drop, take-take, take-add, take-append-seam, drop-append-add}
 use Rattle.lent.specs.Lent.{over}
 
 module _ (d : List ℕ) (at : ℕ) (x : List ℕ) (room : at ≤ length d) where
@@ -69,3 +69,12 @@ over-none d at = paste-zero d at []
 -- two stores are two bytes written
 pub over-two : (d : List ℕ) (at x y : ℕ) → at + 2 ≤ length d → set (set d at x) (at + 1) y ≡ over d at (x ∷ y ∷ [])
 over-two d at x y room = rw (add-one at) (sets-eq (x ∷ y ∷ []) d at room)
+
+-- the middle of a list, cut in either order
+pub take-drop : {A : Type 0} (n m : ℕ) (l : List A) → n ≤ length l → take m (drop n l) ≡ drop n (take (n + m) l)
+take-drop n m l h = rw (take-add n m l) (sym (drop-at (take n l) (take m (drop n l)) n (length-take-le n l h)))
+
+-- a part of a list's front is that part of the list
+pub part-front : (x : List ℕ) (a m n : ℕ) → a + m ≤ n → n ≤ length x → take m (drop a (take n x)) ≡ take m (drop a x)
+part-front x a m n l h =
+    take-drop a m (take n x) (simp (length-take-le n x h) (omega arith)) ∙ ap (drop a) (take-take (a + m) n x l) ∙ sym (take-drop a m x (omega arith))

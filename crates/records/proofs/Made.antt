@@ -10,8 +10,6 @@ use Rattle.samples.specs.Window.{channels}
 use Rattle.records.specs.Record.{wordAt, fourBytes, swapped, narrow, recordLength, numberIn, timeIn, frameIn, recordOf}
 use Rattle.records.proofs.Swapped.{swapped-length, swapped-twice}
 
--- ---- four bytes and their number
-
 number-again : (v : ℕ) → v < 4294967296 → v % 256 + 256 * (v / 256 % 256 + 256 * (v / 256 / 256 % 256 + 256 * (v / 256 / 256 / 256 % 256))) ≡ v
 number-again v l = omega arith
 
@@ -21,8 +19,6 @@ bytes-again a b c d h i j k =
     let first : (x y : ℕ) → x < 256 → (x + 256 * y) % 256 ≡ x = λ x y q. omega arith in
     rw (past a (b + 256 * (c + 256 * d)) h, past b (c + 256 * d) i, past c d j, first a (b + 256 * (c + 256 * d)) h, first b (c + 256 * d) i, first c d j)
     (ap (λ (x : ℕ). a ∷ b ∷ c ∷ x ∷ []) (omega arith))
-
--- ---- a record made, and taken apart
 
 module _ (ends number time : ℕ) (frame : List ℕ) (long : length frame ≡ 2 * channels ends) where
   pub made-length : length (recordOf number time frame) ≡ recordLength (narrow ends 0)
@@ -39,8 +35,6 @@ module _ (ends number time : ℕ) (frame : List ℕ) (long : length frame ≡ 2 
   pub made-frame : frameIn ends (recordOf number time frame) ≡ frame
   made-frame =
       ap swapped (take-all (2 * channels ends) (swapped frame) (omega (arith, swapped-length (channels ends) frame long))) ∙ swapped-twice (channels ends) frame long
-
--- ---- a record taken apart, and made again
 
 pub made-again : (ends : ℕ) (g : List ℕ) → Every Byte g → length g ≡ recordLength (narrow ends 0) → recordOf (numberIn g) (timeIn g) (frameIn ends g) ≡ g
 unfolding wordAt

@@ -8,7 +8,8 @@ use native.Mathlib.Numerals.{add-one}
 use native.Mathlib.Omega.{arith}
 use lib.IntN.{ℤ, pos}
 use lib.ListN.{length, take, drop, set, getD, length-drop, length-append}
-use lib.Seq.{paste, paste-suc, take-length, take-add, take-at, drop-at, drop-drop, drop-append-le, length-take-le}
+use lib.Seq.{paste, paste-suc, take-length, take-at, drop-at, drop-drop, drop-append-le, length-take-le}
+use Rattle.lent.proofs.Over.{take-drop}
 use Rattle.stream.specs.Window.{newestPart, behind, shifted}
 
 -- one turn of a copy
@@ -16,10 +17,6 @@ pub copy-turn :
     (d₀ d s : List ℤ) (at j : ℕ) (v : ℤ) → at + length s ≤ length d₀ → j < length s → d ≡ paste d₀ at s j → v ≡ getD s j (pos 0) →
     set d (at + j) v ≡ paste d₀ at s (j + 1)
 copy-turn d₀ d s at j v room more e there = rw (e, there, add-one j) (paste-suc d₀ at s j (pos 0) (omega arith) more)
-
--- the middle of a list, cut in either order
-pub take-drop : {A : Type 0} (n m : ℕ) (l : List A) → n ≤ length l → take m (drop n l) ≡ drop n (take (n + m) l)
-take-drop n m l h = rw (take-add n m l) (sym (drop-at (take n l) (take m (drop n l)) n (length-take-le n l h)))
 
 -- Both copies: `part` are the frames but the oldest, of `rest` numbers; s₁ is what the first copy leaves, and s the second.
 pub moved :

@@ -9,7 +9,7 @@ use lib.IntN.{ℤ, pos}
 use lib.ListN.{length, take, drop, getD, replicate, length-drop, take-append-drop, drop-of-length-le}
 use lib.Seq.{drop-drop, getD-drop, take-all, take-append-add}
 use Rattle.lent.specs.Lent.{over}
-use Rattle.lent.proofs.Over.{over-from, over-same}
+use Rattle.lent.proofs.Over.{over-from, over-same, take-drop}
 use Rattle.samples.specs.Window.{windowLength, numbersOf}
 use Rattle.samples.proofs.Bytes.{held, numbers-drop}
 use Rattle.stream.specs.declared.Window.{Window}
@@ -18,7 +18,7 @@ use Rattle.stream.specs.Stored.{numberBytes, storedLength, word, bytesOf
 use Rattle.lent.specs.Bytes.{Every}
 use Rattle.lent.proofs.Every.{every-append, every-take, every-drop, every-copy}
 use Rattle.stream.proofs.Bytes.{bytes-first, two-bytes, written-read}
-use Rattle.stream.proofs.Moving.{take-drop, moved-length, moved-behind}
+use Rattle.stream.proofs.Moving.{moved-length, moved-behind}
 use Rattle.stream.proofs.Reading.{part-holds}
 
 -- ---- the windows that are made
