@@ -35,6 +35,7 @@ static void compare(long windows) {
   same_refusals();
   same_zones();
   same_balanced();
+  same_events();
   for_each_window(same_window);
   for (long n = 0; n < windows; n++)
     for (second_zone zone = OFF; zone < ZONES; zone++) same_nth(n, zone);
@@ -103,7 +104,7 @@ static long stack_bytes(int v, which_call which, long windows, second_zone zone)
 
 static void stack_table(long windows) {
   printf("\nBytes of stack from the return address to the deepest byte written, the red zone below the stack pointer among them.\n");
-  printf("The most of %ld calls, half of them with a missing sample or another byte in the record\n\n", 2 * windows);
+  printf("The most of %ld calls, half of them with a missing sample, another byte in the record or another thing wrong\n\n", 2 * windows);
   printf("         %21s%21s\n", "second zone off", "second zone on");
   printf("call        archive  plain -O3   archive  plain -O3\n");
   for (which_call which = PROPOSE; which < CALLS; which++) {
@@ -126,6 +127,7 @@ int main(int arguments, char **words) {
   if (same_only) return 0;
   instruction_tables();
   second_zone_tables();
+  event_tables();
   time_tables();
   stack_table(windows);
   fflush(stdout);

@@ -7,7 +7,7 @@ import elf
 
 
 def main(paths):
-    print('\nBytes of code, all five calls\n')
+    print('\nBytes of code, all ten calls\n')
     for path in paths:
         with open(path, 'rb') as file:
             print(f'{os.path.basename(path):<20}{sum(map(elf.code_bytes, elf.members(file.read()))):>7}')

@@ -88,8 +88,7 @@ static void above_table(void) {
   for_each_window(above_line);
 }
 
-/* The archive, plain -O3 and their ratios, inside and all, for the call that is lent. */
-static void print_beside_plain(which_call which) {
+void print_beside_plain(which_call which) {
   steps mine = counted(ARCHIVE, which), theirs = counted(PLAIN_O3, which);
   print_count(mine);
   print_count(theirs);
@@ -114,7 +113,7 @@ static void feed_first_frame(int ends) {
   put(slices.state, GORSEPETAL_STATE_AT_COUNT, 0);
 }
 
-static void refused_table(const char *what, which_call which, void (*lend)(int ends)) {
+void table_by_ends(const char *what, which_call which, void (*lend)(int ends)) {
   printf("\n%s, instructions of one call\n\n", what);
   printf("ends       archive     plain -O3   / plain -O3       all / O3\n");
   for (int ends = FEWEST_ENDS; ends <= MOST_ENDS; ends++) {
@@ -138,9 +137,9 @@ void instruction_tables(void) {
   decide_table();
   feed_table();
   above_table();
-  refused_table("Decide, refused because the last sample of the window is missing", DECIDE, lend_last_missing);
-  refused_table("Feed, refused because the last sample of the frame is missing", FEED, feed_last_missing);
-  refused_table("Feed, refused because there are fewer than 16 frames yet", FEED, feed_first_frame);
+  table_by_ends("Decide, refused because the last sample of the window is missing", DECIDE, lend_last_missing);
+  table_by_ends("Feed, refused because the last sample of the frame is missing", FEED, feed_last_missing);
+  table_by_ends("Feed, refused because there are fewer than 16 frames yet", FEED, feed_first_frame);
   entry_table();
 }
 

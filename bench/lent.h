@@ -8,8 +8,11 @@ enum {
   RECORD = GORSEPETAL_RECORD_LENGTH,
   STATE = GORSEPETAL_STATE_LENGTH,
   DECISION = GORSEPETAL_DECISION_LENGTH,
+  READER = GORSEPETAL_EVENTS_LENGTH,
   FEWEST_ENDS = 2,
   MOST_ENDS = 6,
+  MOST_STATUS = 96, /* channels of an event file */
+  LONGEST_RECORD = GORSEPETAL_EVENTS_RECORD_BYTES(MOST_ENDS, MOST_STATUS),
   LARGEST_REACH = 2000, /* thousandths of the replica */
   BEYOND = 8, /* bytes after each slice, which no call may touch */
 };
@@ -22,14 +25,18 @@ extern const struct version {
   int own_numbers; /* it keeps the window that is fed in the processor's own numbers */
 } versions[VERSIONS];
 
-typedef enum { PROPOSE, CONFIRM, READ_BACK, DECIDE, FEED, CALLS } which_call;
+typedef enum { PROPOSE, CONFIRM, READ_BACK, DECIDE, FEED, OPEN, WANTED, READ, END, WRITE, CALLS } which_call;
 extern const char *const call_names[CALLS];
 
 /* The slices of a call with their lengths. `in` is what it reads: the entry of propose and confirm, the samples of decide, the frame of
-** feed. */
+** feed and of write, the piece of an event file that read gets. Then what open and write are told besides. */
 typedef struct {
   size_t state_len, in_len, out_len;
-  uint8_t state[STATE + BEYOND], in[GORSEPETAL_WINDOW_BYTES(MOST_ENDS) + BEYOND], out[DECISION + BEYOND];
+  uint8_t state[STATE + BEYOND], in[GORSEPETAL_WINDOW_BYTES(MOST_ENDS) + BEYOND], out[LONGEST_RECORD + BEYOND];
+  size_t reader_len;
+  uint8_t reader[READER + BEYOND];
+  uint64_t ends, status, written;
+  uint32_t time;
 } lent;
 
 /* Makes the call on these slices and gives back its answer. */

@@ -24,9 +24,15 @@ void print_count(steps s);
 /* The archive's part of another number, rounded up to hundredths: it is never said to be smaller than it is. */
 void print_ratio(long mine, long theirs);
 
-/* How many instructions the calls take, in tables; what the second zone costs; the most over so many windows. */
+/* The archive, plain -O3 and their ratios, inside and all, for the call that is lent. And a table of that, with a line for each number of
+** ends. */
+void print_beside_plain(which_call which);
+void table_by_ends(const char *what, which_call which, void (*lend)(int ends));
+
+/* How many instructions the calls take, in tables; what the second zone and event files cost; the most over so many windows. */
 void instruction_tables(void);
 void second_zone_tables(void);
+void event_tables(void);
 void extent_tables(long windows);
 
 #endif

@@ -1,6 +1,7 @@
 /*
-** Document 01, feeding, the second zone and balanced faults, as one would write them in C: tables, 64-bit sums, one quantity after another.
-** It is the measure for the library's speed and nothing else: its answers are compared with the library's before anything is counted.
+** Document 01, feeding, the second zone, balanced faults and event files, as one would write them in C: tables, 64-bit sums, one quantity
+** after another. It is the measure for the library's speed and nothing else: its answers are compared with the library's before anything
+** is counted.
 **
 ** It is compiled six times, each time under the name PLAIN: at -O2 and at -O3, and with one of three roots. By itself the root is a
 ** whole-number one, a bit of the result a turn, beginning at the highest bit there is. DOUBLE_ROOT takes the processor's square root of a
@@ -14,7 +15,7 @@
 enum { RECORD = 32, DECISION = 32, FRAMES = 16, PHASES = 3, MOST_ENDS = 6, LONGEST = FRAMES * PHASES * (1 + MOST_ENDS) };
 enum { COUNT = 2 * RECORD, NUMBERS = COUNT + 2, STATE = NUMBERS + 2 * LONGEST }; /* of the state: the offsets of its window, its length */
 enum { DONE, NO_SETTINGS, WINDOW_LENGTH, NO_ROOM, MISSING, ENTRY_LENGTH, OUT_OF_RANGE, NOTHING_PENDING, DIFFERS };
-enum { FRAME_LENGTH = 9, TOO_FEW_FRAMES = 10, NO_RELAY = 17 };
+enum { FRAME_LENGTH = 9, TOO_FEW_FRAMES = 10, INSIDE_RECORD = 11, OTHER_NUMBER = 12, BAD_FILE = 13, NO_RELAY = 17 };
 enum { NONE, FORWARD, REVERSE };
 
 typedef struct {
@@ -355,4 +356,106 @@ static uint64_t feed(uint8_t *state, size_t state_len, const uint8_t *frame, siz
   return fed(state, frame, out);
 }
 
-const all_calls PLAIN = {propose, confirm, read_back, decide, feed};
+/* Event files. A record is its number, its time, the samples of a frame and groups of 16 status channels, low byte first throughout. */
+
+enum { FEWEST_ENDS = 2, MOST_STATUS = 96, BEFORE_SAMPLES = 8 };
+static const uint64_t LAST_NUMBER = 4294967295;
+
+/* The reader, as the library keeps it: AT_HELD is how many bytes of a record are in hand; time and frame are of the last whole one. */
+enum { AT_ENDS, AT_STATUS, AT_ENDED, AT_HELD, AT_INDEX, AT_TIME = 8, AT_FRAME = 12, AT_HAND = 56, READER = 160 };
+
+static uint32_t word_at(const uint8_t *bytes) {
+  return (uint32_t)bytes[0] | (uint32_t)bytes[1] << 8 | (uint32_t)bytes[2] << 16 | (uint32_t)bytes[3] << 24;
+}
+
+static void put_low_word(uint8_t *bytes, uint32_t n) {
+  bytes[0] = (uint8_t)n;
+  bytes[1] = (uint8_t)(n >> 8);
+  bytes[2] = (uint8_t)(n >> 16);
+  bytes[3] = (uint8_t)(n >> 24);
+}
+
+/* Copies 16-bit numbers, the two bytes of each exchanged. */
+static void turn(uint8_t *restrict to, const uint8_t *restrict from, size_t bytes) {
+  for (size_t k = 0; k < bytes; k += 2) {
+    to[k] = from[k + 1];
+    to[k + 1] = from[k];
+  }
+}
+
+static int good_ends(uint64_t ends) { return FEWEST_ENDS <= ends && ends <= MOST_ENDS; }
+static int good_file(uint64_t ends, uint64_t status) { return good_ends(ends) && status <= MOST_STATUS; }
+static size_t frame_bytes(size_t ends) { return 2 * (PHASES + PHASES * ends); }
+
+static size_t record_bytes(const uint8_t *reader) {
+  return BEFORE_SAMPLES + frame_bytes(reader[AT_ENDS]) + 2 * (((size_t)reader[AT_STATUS] + 15) / 16);
+}
+
+/* The refusal that ended the reading, or DONE while it goes on. */
+static uint64_t ending(const uint8_t *reader) {
+  uint8_t ended = reader[AT_ENDED];
+  if (ended == INSIDE_RECORD || ended == OTHER_NUMBER) return refused(ended, word_at(reader + AT_INDEX));
+  return ended == 0 && good_file(reader[AT_ENDS], reader[AT_STATUS]) && reader[AT_HELD] < record_bytes(reader) ? DONE : BAD_FILE;
+}
+
+static uint64_t events_open(uint8_t *reader, size_t reader_len, uint64_t ends, uint64_t status) {
+  if (reader_len != READER) return NO_RELAY;
+  memset(reader, 0, READER);
+  if (!good_file(ends, status)) return BAD_FILE;
+  reader[AT_ENDS] = (uint8_t)ends;
+  reader[AT_STATUS] = (uint8_t)status;
+  return DONE;
+}
+
+static uint64_t events_wanted(const uint8_t *reader, size_t reader_len) {
+  return reader_len != READER || ending(reader) != DONE ? 0 : record_bytes(reader) - reader[AT_HELD];
+}
+
+/* Ends the reading, with this refusal of the record being read. */
+static uint64_t ended_by(uint8_t *reader, uint8_t refusal) {
+  reader[AT_ENDED] = refusal;
+  return refused(refusal, word_at(reader + AT_INDEX));
+}
+
+static uint64_t events_read(uint8_t *state, size_t state_len, uint8_t *reader, size_t reader_len, const uint8_t *bytes, size_t bytes_len,
+                            uint8_t *out, size_t out_len) {
+  if (state_len != STATE || reader_len != READER) return NO_RELAY;
+  uint64_t refusal = ending(reader);
+  if (refusal != DONE) return refusal;
+  const uint8_t *record = reader + AT_HAND;
+  size_t whole = record_bytes(reader), held = reader[AT_HELD], taken = whole - held;
+  if (bytes_len < taken) taken = bytes_len;
+  memcpy(reader + AT_HAND + held, bytes, taken);
+  held += taken;
+  if (held >= 4 && word_at(record) != (uint64_t)word_at(reader + AT_INDEX) + 1) return ended_by(reader, OTHER_NUMBER);
+  if (held < whole) {
+    reader[AT_HELD] = (uint8_t)held;
+    return DONE;
+  }
+  size_t frame = frame_bytes(reader[AT_ENDS]);
+  reader[AT_HELD] = 0;
+  memcpy(reader + AT_INDEX, record, 4);
+  put_word(reader + AT_TIME, word_at(record + 4));
+  turn(reader + AT_FRAME, record + BEFORE_SAMPLES, frame);
+  return feed(state, state_len, reader + AT_FRAME, frame, out, out_len);
+}
+
+static uint64_t events_end(uint8_t *reader, size_t reader_len) {
+  if (reader_len != READER) return NO_RELAY;
+  uint64_t refusal = ending(reader);
+  return refusal != DONE || reader[AT_HELD] == 0 ? refusal : ended_by(reader, INSIDE_RECORD);
+}
+
+static uint64_t events_write(uint64_t ends, uint64_t written, uint32_t time, const uint8_t *frame, size_t frame_len, uint8_t *out,
+                             size_t out_len) {
+  if (!good_ends(ends)) return BAD_FILE;
+  if (frame_len != frame_bytes(ends)) return FRAME_LENGTH;
+  if (out_len < BEFORE_SAMPLES + frame_len) return NO_ROOM;
+  if (written >= LAST_NUMBER) return OTHER_NUMBER;
+  put_low_word(out, (uint32_t)written + 1);
+  put_low_word(out + 4, time);
+  turn(out + BEFORE_SAMPLES, frame, frame_len);
+  return DONE;
+}
+
+const all_calls PLAIN = {propose, confirm, read_back, decide, feed, events_open, events_wanted, events_read, events_end, events_write};

@@ -11,6 +11,13 @@ typedef struct {
   uint64_t (*read_back)(const uint8_t *state, size_t state_len, uint8_t *out, size_t out_len);
   uint64_t (*decide)(const uint8_t *state, size_t state_len, const uint8_t *samples, size_t samples_len, uint8_t *out, size_t out_len);
   uint64_t (*feed)(uint8_t *state, size_t state_len, const uint8_t *frame, size_t frame_len, uint8_t *out, size_t out_len);
+  uint64_t (*events_open)(uint8_t *reader, size_t reader_len, uint64_t ends, uint64_t status);
+  uint64_t (*events_wanted)(const uint8_t *reader, size_t reader_len);
+  uint64_t (*events_read)(uint8_t *state, size_t state_len, uint8_t *reader, size_t reader_len, const uint8_t *bytes, size_t bytes_len,
+                          uint8_t *out, size_t out_len);
+  uint64_t (*events_end)(uint8_t *reader, size_t reader_len);
+  uint64_t (*events_write)(uint64_t ends, uint64_t written, uint32_t time, const uint8_t *frame, size_t frame_len, uint8_t *out,
+                           size_t out_len);
 } all_calls;
 
 /* At -O2 and at -O3, with a root by bits and with the processor's root of a double; and at -O3 with the library's root, which calls

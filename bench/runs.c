@@ -1,8 +1,9 @@
-/* Relays at work: frames are fed one after another, and now and then something else is called or something is wrong. */
+/* Relays at work: frames are fed one after another, or come in event files, and now and then something else is called or something is
+** wrong. */
 #include <string.h>
 
+#include "event_calls.h"
 #include "same.h"
-#include "windows.h"
 
 enum { STEPS = 100 };
 
@@ -22,6 +23,7 @@ static uint64_t go_on(run *r, which_call call) {
   same(call, &r->relay);
   uint64_t answer = make(&versions[ARCHIVE], call, &r->relay);
   r->relay.state_len = STATE;
+  r->relay.reader_len = READER;
   r->relay.out_len = DECISION;
   return answer;
 }
@@ -31,17 +33,72 @@ static void lend_in(run *r, const uint8_t *bytes, size_t length) {
   r->relay.in_len = length;
 }
 
+/* The frame that comes next, of this length. */
+static const uint8_t *next_frame(run *r, size_t length) {
+  const uint8_t *frame = r->window.in + length * (size_t)r->frame;
+  r->frame = (r->frame + 1) % GORSEPETAL_FRAMES;
+  return frame;
+}
+
 /* The next frame: mostly as it is, else with a sample missing, another length, too little room or no relay. */
 static void feed_next(run *r) {
   size_t length = (size_t)GORSEPETAL_FRAME_BYTES(ends_of(&r->window));
-  lend_in(r, r->window.in + length * (size_t)r->frame, length);
-  r->frame = (r->frame + 1) % GORSEPETAL_FRAMES;
+  lend_in(r, next_frame(r, length), length);
   int kind = drawn(0, 59);
   if (kind == 0) put(r->relay.in, 2 * drawn(0, (int)length / 2 - 1), GORSEPETAL_MISSING);
   if (kind == 1) r->relay.in_len = (size_t)drawn(0, (int)length + 2);
   if (kind == 2) r->relay.out_len = (size_t)drawn(0, DECISION - 1);
   if (kind == 3) r->relay.state_len = (size_t)drawn(0, STATE - 1);
   go_on(r, FEED);
+}
+
+/* A file, mostly of the line's ends, now and then of others, and rarely one that is refused. Half of them have no status channels. */
+static void open_next(run *r) {
+  int kind = drawn(0, 9), ends = drawn(FEWEST_ENDS - 1, MOST_ENDS + 1), status = drawn(-MOST_STATUS, MOST_STATUS + 3);
+  r->relay.ends = (uint64_t)(kind < 3 ? ends : ends_of(&r->window));
+  r->relay.status = (uint64_t)(status < 0 ? 0 : status);
+  if (kind == 3) r->relay.reader_len = (size_t)drawn(0, READER - 1);
+  go_on(r, OPEN);
+}
+
+/* The next piece of a record, of any length, now and then with bytes behind it that are the next one's. Gives back how many are taken. */
+static size_t read_piece(run *r, const uint8_t *bytes, size_t left) {
+  int most = drawn(0, 2) == 0 ? LONGEST_RECORD : (int)left;
+  size_t length = (size_t)drawn(0, most), wanted = make(&versions[ARCHIVE], WANTED, &r->relay);
+  lend_in(r, bytes, length);
+  int kind = drawn(0, 99);
+  if (kind == 0) r->relay.out_len = (size_t)drawn(0, DECISION - 1);
+  if (kind == 1) r->relay.state_len = (size_t)drawn(0, STATE - 1);
+  if (kind == 2) r->relay.reader_len = (size_t)drawn(0, READER - 1);
+  go_on(r, READ);
+  if (wanted == 0) return left; /* the reading has ended: once more is enough */
+  if (kind == 1 || kind == 2) return 0;
+  return length < wanted ? length : wanted;
+}
+
+/* The next frame as a record, piece by piece: mostly as it is, else with another number or a sample missing, or the file ends within. */
+static void read_next(run *r) {
+  uint8_t record[2 * LONGEST_RECORD] = {0};
+  int kind = drawn(0, 99);
+  if (go_on(r, WANTED) == 0 && kind < 75) open_next(r);
+  size_t length = record_length(&r->relay), taken = 0;
+  put_next_record(&r->relay, next_frame(r, (size_t)GORSEPETAL_FRAME_BYTES(ends_of(&r->window))), record);
+  if (kind == 0) record[drawn(0, 3)] ^= (uint8_t)drawn(1, 255);
+  if (kind == 1) put(record + 8 + 2 * drawn(0, 8), 0, 0x0080); /* 8000 hex, low byte first */
+  while (taken < length && (kind != 2 || drawn(0, 3) != 0)) taken += read_piece(r, record + taken, length - taken);
+  if (drawn(0, 9) == 0 || kind == 2) go_on(r, END);
+}
+
+/* The next frame is written as a record, mostly with room for it. */
+static void write_next(run *r) {
+  int ends = ends_of(&r->window);
+  size_t length = (size_t)GORSEPETAL_FRAME_BYTES(ends);
+  lend_in(r, next_frame(r, length), length);
+  r->relay.ends = (uint64_t)(ends + (drawn(0, 9) == 0));
+  r->relay.written = (uint64_t)drawn(0, 65535);
+  r->relay.time = 1250 * (uint32_t)r->relay.written;
+  r->relay.out_len = (size_t)drawn(GORSEPETAL_EVENTS_RECORD_BYTES(ends, 0) - 1, LONGEST_RECORD);
+  go_on(r, WRITE);
 }
 
 /* Two entries of the same record again or of another line's, the second one sometimes mistyped. */
@@ -79,6 +136,12 @@ static void run_nth(long n) {
       enter(&r, kind);
     else if (kind == 2)
       call_another(&r);
+    else if (kind == 3)
+      open_next(&r);
+    else if (kind == 4)
+      write_next(&r);
+    else if (kind < 25)
+      read_next(&r);
     else
       feed_next(&r);
   }

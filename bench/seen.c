@@ -1,14 +1,14 @@
-/* What the compared calls showed of the second zone and of balanced faults, counted. */
+/* What the compared calls showed of the second zone, of balanced faults and of event files, counted. */
 #include <stdio.h>
 #include <stdlib.h>
 #include <string.h>
 
+#include "event_calls.h"
 #include "seen.h"
-#include "windows.h"
 
 enum { LOOPS = 6, PHASE_LOOPS = GORSEPETAL_LOOP_AB + GORSEPETAL_LOOP_BC + GORSEPETAL_LOOP_CA };
 
-/* Of the second zone, then of balanced faults. */
+/* Of the second zone, then of balanced faults, then of event files. */
 enum {
   ALONE, /* one for each loop, from AG on */
   OFF_BESIDE_FIRST = ALONE + LOOPS,
@@ -37,6 +37,37 @@ enum {
   WITHOUT, /* one for each phase loop, from AB on */
   SECOND_ZONE_ALONE = WITHOUT + 3,
   NO_LOOP_BEHIND,
+  OF_EVENT_FILES,
+  OPENED = OF_EVENT_FILES,
+  OPEN_REFUSED,
+  READER_OF_OTHER_LENGTH,
+  NEVER_OPENED,
+  COUNT_WANTED,
+  NOTHING_WANTED,
+  TAKEN,
+  DECIDED,
+  BYTES_LEFT,
+  WITH_STATUS,
+  READ_NO_SETTINGS,
+  READ_OTHER_ENDS,
+  READ_NO_ROOM,
+  READ_TOO_FEW,
+  READ_MISSING,
+  WRONG_NUMBER,
+  WRONG_FIRST_NUMBER,
+  LAST_NUMBER_READ,
+  NO_NUMBER_LEFT,
+  READ_AFTER_END,
+  ENDED_AFTER_WRONG_NUMBER,
+  ENDED_BETWEEN,
+  ENDED_INSIDE,
+  ENDED_BEFORE_NUMBER,
+  WRITTEN,
+  LAST_NUMBER_WRITTEN,
+  WRITE_OTHER_ENDS,
+  WRITE_OTHER_LENGTH,
+  WRITE_NO_ROOM,
+  NUMBER_PAST_LAST,
   KINDS
 };
 static const char *const kinds[KINDS] = {
@@ -73,6 +104,36 @@ static const char *const kinds[KINDS] = {
     [WITHOUT + 2] = "3I2 of 0, AB and BC but not CA, no trip",
     [SECOND_ZONE_ALONE] = "3I2 of 0, all in the second zone alone, no trip",
     [NO_LOOP_BEHIND] = "3I2 of 0, behind the relay, no loop at 2000",
+    [OPENED] = "a file opened",
+    [OPEN_REFUSED] = "open refused 13",
+    [READER_OF_OTHER_LENGTH] = "a reader of another length",
+    [NEVER_OPENED] = "read refused 13",
+    [COUNT_WANTED] = "a count wanted",
+    [NOTHING_WANTED] = "nothing wanted",
+    [TAKEN] = "a piece taken that finishes no record",
+    [DECIDED] = "a whole record, decided",
+    [BYTES_LEFT] = "the same, and bytes are left for the next one",
+    [WITH_STATUS] = "the same, with status channels",
+    [READ_NO_SETTINGS] = "a whole record refused 1",
+    [READ_OTHER_ENDS] = "a whole record refused 9",
+    [READ_NO_ROOM] = "a whole record refused 3",
+    [READ_TOO_FEW] = "a whole record refused 10",
+    [READ_MISSING] = "a whole record refused 4",
+    [WRONG_NUMBER] = "read refused 12",
+    [WRONG_FIRST_NUMBER] = "read refused 12 at 0",
+    [LAST_NUMBER_READ] = "the record with number 4294967295, decided",
+    [NO_NUMBER_LEFT] = "read refused 12 at 4294967295",
+    [READ_AFTER_END] = "read refused 11, after the file's end",
+    [ENDED_AFTER_WRONG_NUMBER] = "end refused 12",
+    [ENDED_BETWEEN] = "a file that ends between records",
+    [ENDED_INSIDE] = "a file that ends inside a record, 11",
+    [ENDED_BEFORE_NUMBER] = "the same, after one to three bytes of it",
+    [WRITTEN] = "a record written",
+    [LAST_NUMBER_WRITTEN] = "the record with number 4294967295 written",
+    [WRITE_OTHER_ENDS] = "write refused 13",
+    [WRITE_OTHER_LENGTH] = "write refused 9",
+    [WRITE_NO_ROOM] = "write refused 3",
+    [NUMBER_PAST_LAST] = "write refused 12",
 };
 static long seen[KINDS];
 
@@ -142,7 +203,64 @@ static void see_second_reach_refused(const uint8_t *entry) {
   seen[LOWER_BYTE_ALONE] += entry[GORSEPETAL_AT_SECOND_REACH] == 0;
 }
 
+static const uint64_t LAST_NUMBER = 4294967295;
+
+/* A whole record leaves nothing in hand; a piece that finishes none leaves some bytes. */
+static void see_read(uint64_t answer, const lent *left) {
+  const uint8_t *reader = left->reader;
+  uint64_t number = GORSEPETAL_NUMBER(answer), place = GORSEPETAL_PLACE(answer);
+  int decided = number == GORSEPETAL_DONE && reader[AT_HELD] == 0 && left->in_len > 0;
+  seen[TAKEN] += number == GORSEPETAL_DONE && reader[AT_HELD] > 0;
+  seen[DECIDED] += decided;
+  seen[BYTES_LEFT] += decided && left->in_len > record_length(left);
+  seen[WITH_STATUS] += decided && reader[AT_STATUS] > 0;
+  seen[LAST_NUMBER_READ] += decided && low_word(reader + AT_INDEX) == LAST_NUMBER;
+  seen[READ_NO_SETTINGS] += number == GORSEPETAL_NO_SETTINGS;
+  seen[READ_OTHER_ENDS] += number == GORSEPETAL_OTHER_FRAME_LENGTH;
+  seen[READ_NO_ROOM] += number == GORSEPETAL_NO_ROOM;
+  seen[READ_TOO_FEW] += number == GORSEPETAL_TOO_FEW_FRAMES;
+  seen[READ_MISSING] += number == GORSEPETAL_MISSING_SAMPLE;
+  seen[NEVER_OPENED] += number == GORSEPETAL_BAD_FILE;
+  seen[READ_AFTER_END] += number == GORSEPETAL_INSIDE_RECORD;
+  seen[WRONG_NUMBER] += number == GORSEPETAL_OTHER_NUMBER;
+  seen[WRONG_FIRST_NUMBER] += number == GORSEPETAL_OTHER_NUMBER && place == 0;
+  seen[NO_NUMBER_LEFT] += number == GORSEPETAL_OTHER_NUMBER && place == LAST_NUMBER;
+}
+
+static void see_end(uint64_t answer, const lent *left) {
+  uint64_t number = GORSEPETAL_NUMBER(answer);
+  int held = left->reader[AT_HELD];
+  seen[ENDED_BETWEEN] += number == GORSEPETAL_DONE;
+  seen[ENDED_INSIDE] += number == GORSEPETAL_INSIDE_RECORD;
+  seen[ENDED_BEFORE_NUMBER] += number == GORSEPETAL_INSIDE_RECORD && 1 <= held && held <= 3;
+  seen[ENDED_AFTER_WRONG_NUMBER] += number == GORSEPETAL_OTHER_NUMBER;
+}
+
+static void see_written(uint64_t answer, const lent *left) {
+  seen[WRITTEN] += answer == GORSEPETAL_DONE;
+  seen[LAST_NUMBER_WRITTEN] += answer == GORSEPETAL_DONE && left->written + 1 == LAST_NUMBER;
+  seen[WRITE_OTHER_ENDS] += answer == GORSEPETAL_BAD_FILE;
+  seen[WRITE_OTHER_LENGTH] += answer == GORSEPETAL_OTHER_FRAME_LENGTH;
+  seen[WRITE_NO_ROOM] += answer == GORSEPETAL_NO_ROOM;
+  seen[NUMBER_PAST_LAST] += answer == GORSEPETAL_OTHER_NUMBER;
+}
+
+static void see_event(which_call call, uint64_t answer, const lent *left) {
+  if (call == READ) see_read(answer, left);
+  if (call == END) see_end(answer, left);
+  if (call == WRITE) see_written(answer, left);
+  seen[OPENED] += call == OPEN && answer == GORSEPETAL_DONE;
+  seen[OPEN_REFUSED] += call == OPEN && answer == GORSEPETAL_BAD_FILE;
+  seen[COUNT_WANTED] += call == WANTED && answer > 0;
+  seen[NOTHING_WANTED] += call == WANTED && answer == 0;
+  seen[READER_OF_OTHER_LENGTH] += call != WRITE && left->reader_len != READER;
+}
+
 void see(which_call call, uint64_t answer, const lent *left) {
+  if (call >= OPEN) {
+    see_event(call, answer, left);
+    return;
+  }
   int number = (int)GORSEPETAL_NUMBER(answer), place = (int)GORSEPETAL_PLACE(answer);
   if ((call == DECIDE || call == FEED) && number == GORSEPETAL_DONE) see_decision(call, left);
   if (number == GORSEPETAL_OUT_OF_RANGE && place == GORSEPETAL_AT_SECOND_REACH) see_second_reach_refused(left->in);
@@ -164,7 +282,8 @@ static int print_kinds(const char *of, int from, int to) {
 void print_seen(void) {
   printf("\nSeen in these calls\n");
   int never = print_kinds("The second zone:", 0, OF_BALANCED_FAULTS);
-  never += print_kinds("Balanced faults:", OF_BALANCED_FAULTS, KINDS);
+  never += print_kinds("Balanced faults:", OF_BALANCED_FAULTS, OF_EVENT_FILES);
+  never += print_kinds("Event files:", OF_EVENT_FILES, KINDS);
   if (never == 0) return;
   printf("%d of them never: the comparison says nothing of that\n", never);
   exit(1);

@@ -2,6 +2,7 @@
 ** everywhere. */
 #include <string.h>
 
+#include "event_calls.h"
 #include "windows.h"
 
 enum { FRAMES = 16, PHASES = 3, LARGEST = 32767, SCALE = 16384 };
@@ -83,7 +84,9 @@ void lend_fresh(lent *to) {
   memset(to, 0, sizeof *to);
   memset(to->out, 0xA5, sizeof to->out);
   memset(to->state + STATE, 0xA5, BEYOND);
+  memset(to->reader + READER, 0xA5, BEYOND);
   to->state_len = STATE;
+  to->reader_len = READER;
   to->out_len = DECISION;
 }
 
@@ -236,6 +239,10 @@ static void put_nth_window(lent *to, long n) {
 }
 
 void lend_nth(lent *to, which_call call, long n, second_zone zone) {
+  if (call >= OPEN) {
+    lend_nth_event(to, call, n, zone);
+    return;
+  }
   uint8_t record[RECORD];
   draw = (uint32_t)n * 2654435761u;
   put_nth_record(record, n);
@@ -253,6 +260,10 @@ void lend_nth(lent *to, which_call call, long n, second_zone zone) {
 }
 
 void spoil(lent *slices, which_call call) {
+  if (call >= OPEN) {
+    spoil_event(slices, call);
+    return;
+  }
   if (call == DECIDE || call == FEED) {
     int index = drawn(0, last_sample(slices));
     put(call == DECIDE ? slices->in + 2 * index : fed_number(slices, index), 0, GORSEPETAL_MISSING);

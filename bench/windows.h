@@ -58,7 +58,8 @@ int drawn(int low, int high);
 ** as large, and halfway; all else is as if it were off. */
 void lend_nth(lent *to, which_call call, long n, second_zone zone);
 
-/* Changes one thing in the call that was lent last, so that it is mostly refused: a sample is missing, or a byte of a record is another. */
+/* Changes one thing in the call that was lent last, so that it is mostly refused: a sample is missing, or a byte of a record is another.
+** The event calls are in event_calls.h. */
 void spoil(lent *slices, which_call call);
 
 #endif

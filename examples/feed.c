@@ -5,9 +5,9 @@
 */
 #include <stdio.h>
 
-#include "mill.h"
+#include "mill_fault.h"
 
-/* ---- The firmware: the part to copy ---- */
+/* ---- The firmware: the part to copy, with enter_settings of mill_fault.h ---- */
 
 static uint8_t relay[GORSEPETAL_STATE_LENGTH];       /* records and window; all zero: a fresh relay */
 static uint8_t decision[GORSEPETAL_DECISION_LENGTH]; /* the last one that was made */
@@ -42,47 +42,9 @@ static uint64_t at_sample_time(const uint8_t frame[FRAME]) {
   return answer;
 }
 
-/* Two entries, each in a buffer filled anew. The confirmation empties the window: no decision for the next 15 frames. */
-static uint64_t enter_settings(void) {
-  uint8_t first[GORSEPETAL_RECORD_LENGTH], second[GORSEPETAL_RECORD_LENGTH];
-  fill(first, 15);
-  fill(second, 15);
-  uint64_t answer = gorsepetal_propose(relay, sizeof relay, first, sizeof first);
-  return answer == GORSEPETAL_DONE ? gorsepetal_confirm(relay, sizeof relay, second, sizeof second) : answer;
-}
-
-/* ---- The line ---- */
-
-/* Of each channel the phasor, in counts: Va, Vb, Vc; Ia, Ib, Ic of end 1; the same of end 2. The load is 300 counts, in at end 1 and out at
-** end 2. The fault, of phase a to ground, halves Va and adds 1000 counts in at end 1, of which 400 go out at end 2. */
-typedef struct { int re, im; } Phasor;
-static const Phasor LOAD[CHANNELS] = {{2000, 0}, {-1000, -1732}, {-1000, 1732}, {300, 0}, {-150, -260}, {-150, 260},
-                                      {-300, 0}, {150, 260}, {150, -260}};
-static const Phasor FAULT[CHANNELS] = {{1000, 0}, {-1000, -1732}, {-1000, 1732}, {300, -1000}, {-150, -260}, {-150, 260},
-                                       {-300, 400}, {150, 260}, {150, -260}};
-enum { IB_OF_END_2 = 7 };
-
-/* The frame of a steady wave: re cos - im sin, sixteen frames a cycle. */
-static void sample(const Phasor *line, int n, uint8_t frame[FRAME]) {
-  static const int COSINES[] = {10000, 9239, 7071, 3827, 0, -3827, -7071, -9239, -10000, -9239, -7071, -3827, 0, 3827, 7071, 9239};
-  int cosine = COSINES[n % 16], sine = COSINES[(n + 12) % 16];
-  for (int c = 0; c < CHANNELS; c++) {
-    int x = line[c].re * cosine - line[c].im * sine;
-    put(frame, 2 * c, (x + (x < 0 ? -5000 : 5000)) / 10000);
-  }
-}
-
 /* ---- What happens, and what is expected ---- */
 
-enum { LEFT_OPEN = -1 };
-typedef struct {
-  const char *what;
-  int last;              /* the frame with which it ends */
-  const Phasor *line;
-  int entered, missing;  /* before its first frame the settings are entered; in its first frame Ib of end 2 is missing */
-  uint64_t number;       /* of each answer, and the first four bytes of the decision */
-  int trip, diff, mho, dir;
-} Stretch;
+enum { IB_OF_END_2 = 7 };
 
 /* The differential of the fault is a wave of 600 counts that begins at a zero: 0, 230, 424, 554 .. From its first 3 frames the transform
 ** makes 80 counts beside a restraint of 759, which is 11 percent; from 4 frames 144 beside 856, 17 percent. So with slope 15 the fourth
@@ -107,27 +69,19 @@ static const Stretch STRETCHES[] = {
    .dir = GORSEPETAL_DIRECTION_FORWARD},
 };
 
-static int as_expected(const Stretch *s, int since, uint64_t answer) {
-  int place = s->missing ? CHANNELS * (15 - since) + IB_OF_END_2 : 0;
-  if (answer != 256 * (uint64_t)place + s->number) return 0;
-  return s->number != GORSEPETAL_DONE ||
-         (decision[GORSEPETAL_DECISION_AT_TRIP] == s->trip && decision[GORSEPETAL_DECISION_AT_PHASES] == s->diff &&
-          (s->mho == LEFT_OPEN || decision[GORSEPETAL_DECISION_AT_LOOPS] == s->mho) &&
-          (s->dir == LEFT_OPEN || decision[GORSEPETAL_DECISION_AT_DIRECTION] == s->dir));
-}
-
 int main(void) {
   int n = 0, faults = 0;
   for (size_t k = 0; k < sizeof STRETCHES / sizeof STRETCHES[0]; k++) {
     const Stretch *s = &STRETCHES[k];
     printf("%s\n", s->what);
-    if (s->entered && enter_settings() != GORSEPETAL_DONE) return 1;
+    if (s->entered && enter_settings(relay) != GORSEPETAL_DONE) return 1;
     for (int since = 0; n < s->last; since++) {
       uint8_t frame[FRAME];
       sample(s->line, n++, frame);
       if (s->missing && since == 0) put(frame, 2 * IB_OF_END_2, GORSEPETAL_MISSING);
       printf("  frame %2d  ", n);
-      if (as_expected(s, since, at_sample_time(frame))) continue;
+      int place = s->missing ? CHANNELS * (15 - since) + IB_OF_END_2 : 0;
+      if (as_expected(s, place, at_sample_time(frame), decision)) continue;
       printf("  NOT AS EXPECTED\n");
       faults++;
     }

@@ -42,7 +42,10 @@ static const char *meaning(uint64_t number) {
   case GORSEPETAL_DIFFERS: return "the confirmation differs";
   case GORSEPETAL_OTHER_FRAME_LENGTH: return "the frame is of another length";
   case GORSEPETAL_TOO_FEW_FRAMES: return "fewer than 16 frames yet";
-  case GORSEPETAL_NO_RELAY: return "the state is of another length";
+  case GORSEPETAL_INSIDE_RECORD: return "the file ends inside a record";
+  case GORSEPETAL_OTHER_NUMBER: return "the record's number is not one above the last";
+  case GORSEPETAL_BAD_FILE: return "no file has so many ends or status channels";
+  case GORSEPETAL_NO_RELAY: return "the state or the reader is of another length";
   default: return "no answer of this version";
   }
 }

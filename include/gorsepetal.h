@@ -5,16 +5,18 @@
 **
 ** Contents: what the library is / in short / lent slices / the relay's state / what comes back /
 ** two entries / settings record / units / tests at the panel / what each field should be /
-** conventions / a line of three ends, worked out / window / frame by frame / decision /
-** balanced faults / the second zone / rules / a decision, worked out / outside the library /
-** limits / constants / the five calls.
+** conventions / a line of three ends, worked out / window / frame by frame / event files /
+** decision / balanced faults / the second zone / rules / a decision, worked out / outside the
+** library / limits / constants / the ten calls.
 **
 ** WHAT THE LIBRARY IS
 **
 ** libgorsepetal.a turns what the commissioning desk enters and one cycle of samples of the line
 ** into a decision. A settings record comes into force only when the same 32 bytes are proposed and
 ** then confirmed; it can be read back. Decide measures a window of samples by the record in force,
-** and says whether to trip and why. Feed does the same with one frame every sample time.
+** and says whether to trip and why. Feed does the same with one frame every sample time. Five calls
+** are for event files, the recordings that utilities send: events_read cuts a file into records and
+** feeds the frame of each, and events_write makes such records.
 **
 ** The library keeps nothing between calls and allocates nothing. It calls nothing but memcpy and
 ** memset, which a C compiler may use in any code: the archive has no other undefined symbol. All
@@ -23,12 +25,12 @@
 ** convention. docs/CLAIMS.md says what is proved of its source, and what is only tested of the
 ** archive.
 **
-** Feed takes less than 4 KiB of stack, decide less than 2.5 KiB, every other call less than 1 KiB.
-** One function of the library calls itself: the root. No other does, not even through another. It
-** is proved that the root's calls lie at most 26 deep in a decide or a feed, and 33 deep for any
-** number. The sizes above have room for 33. How many instructions a call takes depends on the ends
-** of the line and on how large its currents are, and has a bound. The bytes and the instructions
-** are measured and not proved: docs/BENCHMARKS.md.
+** Feed and events_read take less than 4 KiB of stack, decide less than 2.5 KiB, every other call
+** less than 1 KiB. One function of the library calls itself: the root. No other does, not even
+** through another. It is proved that the root's calls lie at most 26 deep in a decide or a feed,
+** and 33 deep for any number. The sizes above have room for 33. How many instructions a call takes
+** depends on the ends of the line and on how large its currents are, and has a bound. The bytes
+** and the instructions are measured and not proved: docs/BENCHMARKS.md.
 **
 ** IN SHORT
 **
@@ -44,7 +46,8 @@
 **     trip(out[GORSEPETAL_DECISION_AT_TRIP]);
 **
 ** or, with 16 frames at hand, gorsepetal_decide with this window in place of the frame. Only after
-** an answer of 0 is there a decision. Link libgorsepetal.a.
+** an answer of 0 is there a decision. For a recording, EVENT FILES has the loop. Link
+** libgorsepetal.a.
 **
 ** LENT SLICES
 **
@@ -55,13 +58,17 @@
 **   - The slice lies within one object. It may begin at any address: nothing needs to be aligned.
 **   - The slices of a call do not overlap. During the call no other thread writes to any of them,
 **     nor reads one that is not const. So while feed runs, its state is lent to no other call.
+**     Events_read is lent two that it changes, the relay and the reader, besides `out`: each lies
+**     apart from the others.
 **   - A const slice is never written, whatever the answer.
 **
-** What a call does with slices that overlap is not promised; so a `frame` or an `out` does not lie
-** in the state. One overlap defeats the two entries: an `entry` that points at the state's own
-** pending bytes, state + GORSEPETAL_STATE_AT_PENDING, confirms itself. So does a buffer that is
-** kept from the proposal and lent once more. No call can see either. The firmware has to lend
-** confirm the bytes that a person entered the second time, in a buffer that was filled anew.
+** What a call does with slices that overlap is not promised; so a `frame`, a `reader`, `bytes` or
+** an `out` does not lie in the state, nor `bytes` or an `out` in the reader. A frame that a reader
+** holds may be lent to events_write as it lies there: that call is lent no reader. One overlap
+** defeats the two entries: an `entry` that points at the state's own pending bytes, state +
+** GORSEPETAL_STATE_AT_PENDING, confirms itself. So does a buffer that is kept from the proposal
+** and lent once more. No call can see either. The firmware has to lend confirm the bytes that a
+** person entered the second time, in a buffer that was filled anew.
 **
 ** THE RELAY'S STATE
 **
@@ -89,7 +96,7 @@
 ** entry of length 0, which is refused with 5. To take all settings away, begin again with 738 zero
 ** bytes.
 **
-** Version 1 had a state of 64 bytes, to which every call now answers 17. With 674 zero bytes behind
+** Version 1 had a state of 64 bytes, to which a call now answers 17. With 674 zero bytes behind
 ** them they are a relay: the record in force stays in force, a pending one stays pending, and no
 ** frame is kept. Or read the record back with the old library, and propose and confirm it in a
 ** fresh relay.
@@ -105,37 +112,61 @@
 ** other way round. But by version 4 the relay trips on balanced faults too: see BALANCED FAULTS,
 ** for load above all.
 **
+** Version 4.0 had the state and the records of this version, and no event files. Such a state
+** serves as it is, and the other way round. A reader of event files is a slice of its own, and no
+** part of the state.
+**
 ** WHAT COMES BACK
 **
-** Each call gives back one number, 256 times the place plus the number of the table.
-** GORSEPETAL_NUMBER and GORSEPETAL_PLACE take them apart: 776 is 8 at 3. GORSEPETAL_ stands before
-** each name.
+** Each call but events_wanted gives back one number, 256 times the place plus the number of the
+** table. GORSEPETAL_NUMBER and GORSEPETAL_PLACE take them apart: 776 is 8 at 3. GORSEPETAL_ stands
+** before each name.
 **
-**   number  name                 when                      place            given by
-**   0       DONE                 done                      0                every call
-**   1       NO_SETTINGS          no settings in force      0                read_back, decide, feed
-**   2       OTHER_WINDOW_LENGTH  window of another length  0                decide
-**   3       NO_ROOM              room below 32 bytes       0                read_back, decide, feed
-**   4       MISSING_SAMPLE       a sample is missing       index of first   decide, feed
-**   5       OTHER_ENTRY_LENGTH   entry not 32 bytes        0                propose, confirm
-**   6       OUT_OF_RANGE         a field is out of range   offset of field  propose
-**   7       NOTHING_PENDING      nothing is pending        0                confirm
-**   8       DIFFERS              confirmation differs      offset of first  confirm
-**   9       OTHER_FRAME_LENGTH   frame of another length   0                feed
-**   10      TOO_FEW_FRAMES       fewer than 16 frames yet  0                feed
-**   17      NO_RELAY             state not 738 bytes       0                every call
+**   number  name                 when                                          place
+**   0       DONE                 done                                          0
+**   1       NO_SETTINGS          no settings in force                          0
+**   2       OTHER_WINDOW_LENGTH  window of another length                      0
+**   3       NO_ROOM              room below 32 bytes, or below one record      0
+**   4       MISSING_SAMPLE       a sample is missing                           index of first
+**   5       OTHER_ENTRY_LENGTH   entry not 32 bytes                            0
+**   6       OUT_OF_RANGE         a field is out of range                       offset of field
+**   7       NOTHING_PENDING      nothing is pending                            0
+**   8       DIFFERS              confirmation differs                          offset of first
+**   9       OTHER_FRAME_LENGTH   frame of another length                       0
+**   10      TOO_FEW_FRAMES       fewer than 16 frames yet                      0
+**   11      INSIDE_RECORD        event file ends inside a record               index of record
+**   12      OTHER_NUMBER         sample number not one above the last          index of record
+**   13      BAD_FILE             ends not 2 to 6, or above 96 status channels  0
+**   17      NO_RELAY             state not 738 bytes, or reader not 160        0
 **
-** Each number is given back in its own condition and in no other. These calls give no other number;
-** 11 to 16 are not in use. Where several conditions hold, the first in the call's order of checks
-** is given. In the place of 4 an index counts the window's numbers from 0; in those of 6 and 8 an
-** offset counts the record's bytes. For 6 it is the first byte of a field, or a spare byte; for 8
-** it may be any byte.
+** Who gives what, in the order of the checks; and each of these calls gives 0:
+**
+**   propose        17, 5, 6
+**   confirm        17, 5, 7, 8
+**   read_back      17, 1, 3
+**   decide         17, 1, 2, 3, 4
+**   feed           17, 1, 9, 3, 10, 4
+**   events_open    17, 13
+**   events_read    17, 13, 12, 11, 1, 9, 3, 10, 4
+**   events_end     17, 13, 12, 11
+**   events_write   13, 9, 3, 12
+**
+** Each number is given back in its own condition and in no other. These calls give no other
+** number; 14 to 16 are not in use. Where several conditions hold, the first in the call's order of
+** checks is given. In the place of 4 an index counts the window's numbers from 0; in those of 11
+** and 12 it counts the file's records from 0. In those of 6 and 8 an offset counts a settings
+** record's bytes. For 6 it is the first byte of a field, or a spare byte; for 8 it may be any
+** byte.
+**
+** From events_write 3 means less room than one record takes, and not than 32 bytes, and 12 is at
+** 0. Events_wanted gives back a count of bytes, and no answer of this table: 17 from it says that
+** 17 bytes are missing.
 **
 ** TWO ENTRIES
 **
-** A record comes into force only by two entries with no other entry between them. Decide, feed and
-** read-back are no entries and change no record, so they may come between; so may a call answered
-** 17.
+** A record comes into force only by two entries with no other entry between them. Decide, feed,
+** read-back and the calls for event files are no entries and change no record, so they may come
+** between; so may a call answered 17.
 **
 **                       propose, done                    confirm, done
 **   +-----------+     ---------------->   +-----------+   ------------->   the record is in force,
@@ -150,7 +181,7 @@
 **   confirm, done (0)                the pending record is in force, nothing is pending, and feed's
 **                                    window is empty
 **   confirm, refused (5, 7, 8)       nothing is pending
-**   17, from any call                nothing has changed: no relay was lent
+**   17, from any call                nothing has changed: no relay was lent, or no reader
 **
 ** The record in force stays until a confirmation is answered 0. No refusal removes it, and no
 ** proposal. After a mismatch both entries have to be made again: a third entry cannot confirm.
@@ -464,6 +495,176 @@
 ** that it was never handed. In the place of a lost frame hand over one of missing samples alone: 4
 ** comes for 16 frames. After a longer gap write zeros to bytes 64 to 737: 10 comes for 15 frames.
 **
+** EVENT FILES
+**
+** Utilities send the recording of a fault as C37.111-1999 (COMTRADE) files: a configuration file,
+** which is text and has the ending .cfg, and a data file, .dat. The library reads and writes
+** binary data files. It opens no file: the caller lends it the bytes, cut anywhere. What the .cfg
+** says is outside the library; which of its lines a caller needs stands at the end of this
+** section.
+**
+** A binary data file is one record after the other, and nothing else. A record here is one frame
+** with a number and a time. With N ends and S status channels:
+**
+**   bytes               content, all with the low byte first
+**   0 to 3              sample number, 32 bits: 1 in the first record, one more in each after it
+**   4 to 7              time, 32 bits
+**   8 to 13             Va, Vb, Vc: 16 bits each, two's complement
+**   14 to 19            Ia, Ib, Ic of end 1
+**   ..
+**   8 + 6N to 13 + 6N   Ia, Ib, Ic of end N
+**   14 + 6N on          status channels: a bit each, in groups of 16 bits
+**
+** The analog channels are the frame, in the order of WINDOW. A frame has the upper byte of a
+** number first and a file the lower; the library turns them. The standard's mark for missing data,
+** 8000 hex, is -32768, so the bytes 00 80 are a missing sample. There is a group for each 16
+** status channels begun: none for 0, one for 1 to 16, two for 17 to 32, six for 81 to 96. So a
+** record has GORSEPETAL_EVENTS_RECORD_BYTES(N, S) bytes:
+**
+**   N                    2     3     4     5     6
+**   no status channels   26    32    38    44    50
+**   96 status channels   38    44    50    56    62
+**
+** Status bits and times are not looked at. Any time is good.
+**
+** A reader is 160 bytes that the caller owns, GORSEPETAL_EVENTS_LENGTH: how far a file has been
+** read. It is state, as the relay's is, and a slice apart from it. Events_open puts it at the
+** start of a file, whatever it held. All zero bytes are a reader that was never opened.
+**
+**   byte 0            ends
+**   byte 1            status channels
+**   byte 2            what ended the reading: 0 nothing, 11 or 12
+**   byte 3            how many bytes of the record being read are in hand
+**   bytes 4 to 7      index of the record being read, from 0, low byte first
+**   bytes 8 to 11     time of the last whole record, upper byte first
+**   bytes 12 to 53    its frame, each number with the upper byte first: 2(3 + 3N) bytes of these
+**   bytes 54 to 55    not used
+**   bytes 56 to 159   the bytes in hand, of which a record takes 62 at most
+**
+** After each whole record its time stands at GORSEPETAL_EVENTS_TIME and its frame at
+** GORSEPETAL_EVENTS_FRAME, also after one that feed refused, until the next is whole. The caller
+** should write to a reader in no other way than by these calls. All the same, any 160 bytes have a
+** meaning. If byte 2 is 12 or 11, the reading has ended with that number, at the index of bytes 4
+** to 7. Otherwise, if byte 2 is 0, ends are 2 to 6, status channels at most 96, and byte 3 is
+** below the record's length, the reading goes on. All others have ended with 13.
+**
+** The loop, with a relay in which settings are in force, for a file of two ends without status
+** channels:
+**
+**   uint8_t reader[GORSEPETAL_EVENTS_LENGTH], out[GORSEPETAL_DECISION_LENGTH];
+**   uint64_t given = gorsepetal_events_open(reader, sizeof reader, 2, 0), wanted;
+**
+**   while ((len = next_piece(&bytes)) > 0)   (a piece of the file, of any length)
+**     while (len > 0 && (wanted = gorsepetal_events_wanted(reader, sizeof reader)) > 0) {
+**       given = gorsepetal_events_read(relay, sizeof relay, reader, sizeof reader, bytes, len,
+**                                      out, sizeof out);
+**       if (len < wanted)
+**         break;                           (0: taken, the record is not whole yet; or 12)
+**       switch (GORSEPETAL_NUMBER(given)) {
+**       case GORSEPETAL_DONE:              (decided, on this record's frame and the 15 before it)
+**         decided(reader + GORSEPETAL_EVENTS_TIME, out);
+**         break;
+**       case GORSEPETAL_OTHER_NUMBER:      (ended: from here on wanted is 0)
+**         break;
+**       default:                           (1, 9, 3, 10, 4: feed's, and the reading goes on)
+**         no_decision(given);
+**       }
+**       bytes += wanted;                   (the rest is handed over again)
+**       len -= wanted;
+**     }
+**   given = gorsepetal_events_end(reader, sizeof reader);
+**   if (given != GORSEPETAL_DONE)
+**     not_all_read(given);                 (11, 12 or 13)
+**
+** So go on while bytes are left and wanted is above 0. Events_read takes as many of the bytes lent
+** as are wanted, and no more; the caller hands the rest over again. Who lends fewer bytes than
+** wanted knows that 0 means "taken", and who lends as many knows that 0 means "decided". However a
+** file is cut, each record gets the same answer and the same decision, and the reading ends in the
+** same way.
+**
+**   answer        what it means                                                  the reading
+**   0             the bytes are taken; or the record's frame is decided on       goes on
+**   10, 4         the record's frame is kept, but there is no decision           goes on
+**   1, 9, 3       the record is read, but its frame is not kept                  goes on
+**   12 at index   the record's sample number is not one above the last           has ended
+**   11 at index   the file ended inside this record: from events_end             has ended
+**   13 at 0       ends not 2 to 6, above 96 status channels, or never opened     has ended
+**   17            a slice of another length: no byte is taken                    as it was
+**
+** Where a reading has ended, events_read and events_end give the same refusal again and change
+** nothing, and wanted is 0. Events_open begins anew. Feed's refusals do not end it: each whole
+** record is answered as feed answers its frame, in feed's order, and the next one is read. After
+** 1, 9 and 3 the relay has not kept the frame; the reader shows it.
+**
+**   - 12 comes as soon as the four bytes of the number are there, so also from a piece that does
+**     not finish the record. The first number is 1. The last is 4294967295: behind it no number is
+**     one above, and a record more is 12 at 4294967295.
+**   - 11 comes from events_end alone, with one byte of a record in hand or more. Between two
+**     records, and for a file without bytes, events_end answers 0 and changes nothing: should more
+**     bytes come, they are read on.
+**   - 13 comes from events_open, and from then on from the others. Ends and status channels are
+**     whole 64-bit numbers: 65538 ends are 13, and not 2.
+**   - 9 comes for each record where the file's ends are not the N of the record in force. It is
+**     not 13: the file itself is good.
+**
+** Several files may go through one relay, one after the other. A new file does not empty the
+** window; only a confirmation does. So the first 15 records of a file are decided on together with
+** frames of the file before. For a file that stands alone, propose and confirm the record again,
+** or lend a fresh relay in which that was done, or write zeros to bytes 64 to 737 of the state, as
+** FRAME BY FRAME says: 10 comes for 15 records. Files that are read by turns take a relay and a
+** reader each. Do not lend the relay that guards the line: the frames of the file would go into
+** its window.
+**
+** A file that was damaged is noticed by its numbers. Where a record before the last is missing,
+** and in nearly every case where a byte was lost or put in, the next number is not one above the
+** last: 12. What lies behind it is not read. A record that is cut at the end of the file is 11.
+** What was decided up to there stands. LIMITS has what is not noticed.
+**
+** The writer makes a record without status channels from a frame, as feed takes it, and a time. It
+** is told how many records came before, so that the numbers begin with 1:
+**
+**   uint8_t record[GORSEPETAL_EVENTS_RECORD_BYTES(2, 0)];
+**   uint64_t written;
+**
+**   for (written = 0; next_frame(frame, &time); written++) {
+**     if (gorsepetal_events_write(2, written, time, frame, sizeof frame, record, sizeof record) !=
+**         GORSEPETAL_DONE)
+**       break;
+**     append(record, sizeof record);       (to the file)
+**   }
+**
+** Reading what it wrote gives the same frames and times. Writing what was read gives the same
+** bytes, if the file has no status channels and the reading was answered 0 at its end. The time to
+** write is then that of bytes 8 to 11 of the reader, and the frame lies at reader +
+** GORSEPETAL_EVENTS_FRAME.
+**
+** The .cfg as C37.111-1999 has it, line by line:
+**
+**   lines         what they have               what to take from them
+**   1             station, device, year        the year has to be 1999
+**   2             TT,##A,##D                   of all TT channels, A analog and D status channels:
+**                                              N = (A - 3) / 3, and D is the status count
+**   the next A    number, name, phase,         which channel it is; its value is a x number + b,
+**                 circuit, unit, a, b, ..      in its unit
+**   the next D    one a status channel         nothing
+**   the next      line frequency               50 or 60
+**   the next      number of sampling rates     it has to be 1
+**   the next      samp,endsamp                 samp, samples a second, has to be 16 x frequency;
+**                                              endsamp is the number of the last record
+**   the next 2    time stamps                  when the first sample was, and the trigger
+**   the next      file type                    it has to say BINARY
+**   the last      timemult                     time x timemult is in microseconds
+**
+** None of this can be told from the data. So it has to be checked outside: that N comes out whole
+** and from 2 to 6, that there is one rate, 16 x frequency (800 samples a second at 50 Hz, 960 at
+** 60 Hz), and that the type is BINARY. The channels have to be in our order, and in counts: the
+** factors a and b are outside. If each b is 0, and a is the same for all voltages, and the same
+** for all currents in primary amperes, the numbers are counts as they are: with 1 / a in place of
+** cv and of ci the settings fit the file. Otherwise the caller has to order and scale the numbers
+** before they are read; 8000 hex is not scaled. A record's time counts from the first sample, in a
+** unit that timemult scales: with a timemult of 1 it counts microseconds, and at 50 Hz grows by
+** 1250 a record.
+**
 ** DECISION
 **
 ** 32 bytes, GORSEPETAL_DECISION_LENGTH. U is the restraint of a phase and s the squared magnitude
@@ -657,9 +858,11 @@
 **
 ** OUTSIDE THE LIBRARY
 **
-** Transformer differential, travelling waves, alignment of clocks and polarising memory. So are the
-** compensation of charging current, the supervision of the voltage transformers' fuses, the
-** saturation of current transformers, the analog filter in front of the converter, and timers.
+** Transformer differential, travelling waves, alignment of clocks and polarising memory. So are
+** the compensation of charging current, the supervision of the voltage transformers' fuses, the
+** saturation of current transformers, the analog filter in front of the converter, and timers. Of
+** event files the .cfg is outside, and so are data files that are text, and other editions than
+** that of 1999.
 **
 ** LIMITS
 **
@@ -686,6 +889,15 @@
 **     hold a trip or keep the lamp lit, is the firmware's matter.
 **   - A frame that feed was never handed, or was handed twice, is not detected. The waves in the
 **     window then have a step, and the phasors are wrong until it has passed, 15 frames later.
+**
+** What the reading of an event file cannot tell:
+**   - Times and status bits are not looked at. Times that stand still, go back or leave a gap are
+**     not noticed: the frames are taken for neighbours, by their numbers alone.
+**   - Samples that were damaged, a file of another scale or of another order of channels, and one
+**     of another rate are not noticed. A wrong count of ends or of status channels is not noticed
+**     as such: the next number then stands elsewhere, and in nearly every case shows it as 12.
+**   - A file that lost whole records at its end is not noticed: it ends between two records, and
+**     events_end answers 0. Compare the count of records with endsamp of the .cfg.
 **
 ** What the transform of one cycle sees, for a wave of peak 1:
 **   - Another frequency. At 0.98 of the nominal one (49 Hz for 50) the magnitude reads between
@@ -715,8 +927,8 @@ extern "C" {
 #endif
 
 /* The version of this file and of the archive: text, and 10000 major + 100 minor + patch. */
-#define GORSEPETAL_VERSION "4.0.0"
-#define GORSEPETAL_VERSION_NUMBER 40000
+#define GORSEPETAL_VERSION "4.1.0"
+#define GORSEPETAL_VERSION_NUMBER 40100
 
 /* Lengths in bytes: a relay's state, a settings record and a decision. */
 #define GORSEPETAL_STATE_LENGTH 738
@@ -735,6 +947,15 @@ extern "C" {
 /* The number that stands for a missing sample, and the largest sample, also with a minus sign. */
 #define GORSEPETAL_MISSING (-32768)
 #define GORSEPETAL_LARGEST_SAMPLE 32767
+
+/* A reader of event files, in bytes; where in it the time and the frame of the last whole record
+** stand; and the bytes of a record of a file with so many ends and status channels. The writer's
+** records have no status channels. */
+#define GORSEPETAL_EVENTS_LENGTH 160
+#define GORSEPETAL_EVENTS_TIME 8
+#define GORSEPETAL_EVENTS_FRAME 12
+#define GORSEPETAL_EVENTS_RECORD_BYTES(ends, status)                                               \
+  (8 + 2 * (3 + 3 * (ends)) + 2 * (((status) + 15) / 16))
 
 /* The offset of each part of the state: the two records, and the count and the numbers of feed's
 ** window. */
@@ -800,6 +1021,9 @@ extern "C" {
 #define GORSEPETAL_DIFFERS 8
 #define GORSEPETAL_OTHER_FRAME_LENGTH 9
 #define GORSEPETAL_TOO_FEW_FRAMES 10
+#define GORSEPETAL_INSIDE_RECORD 11
+#define GORSEPETAL_OTHER_NUMBER 12
+#define GORSEPETAL_BAD_FILE 13
 #define GORSEPETAL_NO_RELAY 17
 
 /* The two parts of what a call gave back. */
@@ -921,6 +1145,133 @@ uint64_t gorsepetal_decide(const uint8_t *state, size_t state_len, const uint8_t
 */
 uint64_t gorsepetal_feed(uint8_t *state, size_t state_len, const uint8_t *frame, size_t frame_len,
                          uint8_t *out, size_t out_len);
+
+/*
+** Begin an event file: put a reader at its start.
+**
+**   reader   the reader, 160 bytes; changed as said below
+**   ends     how many ends the file has, 2 to 6: it has 3 + 3 x ends analog channels
+**   status   how many status channels it has, 0 to 96
+**
+** Checked in this order:
+**   17              reader_len is not 160
+**   13 at 0         ends is below 2 or above 6, or status is above 96; so 65538 ends, too
+**
+**   answer   reader
+**   17       as it was
+**   13       160 zero bytes: a reader that was never opened
+**   0        ends in byte 0, status in byte 1, and 158 zero bytes
+**
+** What the reader held has no part in it: a reading that has ended, or is in the midst of a record,
+** is given up. No relay is lent, and so feed's window stays as it was.
+*/
+uint64_t gorsepetal_events_open(uint8_t *reader, size_t reader_len, uint64_t ends, uint64_t status);
+
+/*
+** How many bytes are missing to the end of the record that is being read.
+**
+**   reader   the reader, 160 bytes; never changed
+**
+** Gives back a count of bytes, and no answer of the table:
+**   1 to 62         so many are missing; between two records, and at the start of the file,
+**                   GORSEPETAL_EVENTS_RECORD_BYTES(ends, status)
+**   0               the reading has ended, or the reader was never opened, or reader_len is not 160
+*/
+uint64_t gorsepetal_events_wanted(const uint8_t *reader, size_t reader_len);
+
+/*
+** Hand over the next bytes of an event file. If they finish a record, its frame is handed to the
+** relay, as by gorsepetal_feed.
+**
+**   state    the relay, 738 bytes; changed as said below
+**   reader   the reader, 160 bytes; changed as said below
+**   bytes    the next bytes of the file, of any length; never changed. As many of them
+**            are taken as are wanted; the rest has to be handed over again
+**   out      room for the decision, 32 bytes or more
+**
+** Checked in this order:
+**   17              state_len is not 738, or reader_len is not 160
+**   13 at 0         the reading has ended with 13: the reader was not opened, or open answered 13
+**   12 at index     the reading has ended with 12; or the four bytes of the record's sample number
+**                   are there now, and it is not one above its index, which counts from 0
+**   11 at index     the reading has ended with 11
+** and then, only if the record is whole now, as feed does with its frame:
+**   1  at 0         no settings are in force, or what is stored there is a record that propose
+**                   would refuse
+**   9  at 0         the file's ends are not the N of the record in force
+**   3  at 0         out_len is below 32, also where nothing would be written
+**   10 at 0         fewer than 16 frames are kept, this one counted
+**   4  at index     a sample is missing among the newest 16 frames: the first, by its index among
+**                   their numbers, the oldest frame first
+**
+**   answer              state               reader                out
+**   17                  as it was           as it was             as it was
+**   13, 12, 11, again   as it was           as it was             as it was
+**   12, now found       as it was           it has ended          as it was
+**   0, not whole        as it was           the bytes are taken   as it was
+**   1, 9, 3             as it was           the record is read    as it was
+**   10, 4               the frame is kept   the record is read    as it was: no decision
+**   0, whole            the frame is kept   the record is read    first 32 bytes: the decision
+**
+** The bytes are taken: they stand behind those in hand, from byte 56 + (byte 3) on, and byte 3
+** counts them too.
+** It has ended: the bytes stand there likewise, byte 2 is 12, and byte 3 is as it was.
+** The record is read: the bytes stand there likewise, and byte 3 is 0. Bytes 4 to 7 are its sample
+** number, four bytes as they stood in the file: it is the index of the next record. Bytes 8 to 11
+** are its time, and its frame stands from byte 12 on.
+** All other bytes of the reader stay as they were. Who lends fewer bytes than wanted knows that 0
+** means "taken", and who lends as many knows that 0 means "decided". What a frame that is kept
+** changes in the state stands above gorsepetal_feed. A pending record has no part in it.
+*/
+uint64_t gorsepetal_events_read(uint8_t *state, size_t state_len, uint8_t *reader,
+                                size_t reader_len, const uint8_t *bytes, size_t bytes_len,
+                                uint8_t *out, size_t out_len);
+
+/*
+** Say that the file has no more bytes, and ask how it ended.
+**
+**   reader   the reader, 160 bytes; changed as said below
+**
+** Checked in this order:
+**   17              reader_len is not 160
+**   13 at 0         the reading has ended with 13: the reader was not opened, or open answered 13
+**   12 at index     the reading has ended with 12
+**   11 at index     the reading has ended with 11; or it is inside a record: one byte or more of it
+**                   is in hand
+**
+**   answer              reader
+**   17                  as it was
+**   13, 12, 11, again   as it was
+**   11, now found       byte 2 is 11, and all others are as they were
+**   0                   as it was
+**
+** Done (0): the file ended between two records, or had no bytes. Further bytes are read on.
+*/
+uint64_t gorsepetal_events_end(uint8_t *reader, size_t reader_len);
+
+/*
+** Make one record of an event file without status channels.
+**
+**   ends      how many ends the file has, 2 to 6
+**   written   how many records came before it: its sample number is one more
+**   time      its time, any number
+**   frame     the frame, numbers with the upper byte first as feed takes it; never changed
+**   out       room for the record
+**
+** Checked in this order:
+**   13 at 0         ends is below 2 or above 6
+**   9  at 0         frame_len is not GORSEPETAL_FRAME_BYTES(ends)
+**   3  at 0         out_len is below GORSEPETAL_EVENTS_RECORD_BYTES(ends, 0), which is 26 for two
+**                   ends and 50 for six
+**   12 at 0         written is 4294967295 or more: the number would be past 4294967295
+**
+** Done (0): the record stands at the front of out; later bytes stay as they were.
+** Refused: nothing is written to out.
+** The samples are not looked at: -32768, a missing one, becomes 8000 hex.
+*/
+uint64_t gorsepetal_events_write(uint64_t ends, uint64_t written, uint32_t time,
+                                 const uint8_t *frame, size_t frame_len, uint8_t *out,
+                                 size_t out_len);
 
 #ifdef __cplusplus
 }

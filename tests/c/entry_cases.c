@@ -1,4 +1,4 @@
-/* Propose, confirm and read-back in named cases, and a state of another length for all five calls. */
+/* Propose, confirm and read-back in named cases, and a state of another length for these, for decide and for feed. */
 #include <string.h>
 
 #include "lent.h"

@@ -3,45 +3,6 @@
 
 #include "lent.h"
 
-enum { FEWEST_ENDS = 2, MOST_ENDS = 6, LONGEST_FRAME = GORSEPETAL_FRAME_BYTES(6) };
-
-/* A relay with this record in force, another one pending, this count, and the numbers given. */
-static void lend_relay(const uint8_t *in_force, int count, const uint8_t *numbers) {
-  lend_state(in_force, other);
-  put(state.all + GUARD, COUNT, count);
-  memcpy(state.all + GUARD + NUMBERS, numbers, LONGEST);
-}
-
-static void with_ends(uint8_t *record, int ends) {
-  memcpy(record, good, RECORD);
-  record[1] = (uint8_t)ends;
-}
-
-/* A line with so many ends and this many frames kept, all zero; the numbers behind the 16 frames are not. */
-static void lend_line(int ends, int count) {
-  uint8_t record[RECORD], numbers[LONGEST];
-  int kept = GORSEPETAL_WINDOW_BYTES(ends);
-  with_ends(record, ends);
-  memset(numbers, 0, sizeof numbers);
-  memset(numbers + kept, 0x77, (size_t)(LONGEST - kept));
-  lend_relay(record, count, numbers);
-}
-
-/* The frame with this number: each of its samples is another, and no two frames are alike. */
-static const uint8_t *nth(int n) {
-  static uint8_t frame[LONGEST_FRAME];
-  for (int channel = 0; channel < LONGEST_FRAME / 2; channel++) put(frame, 2 * channel, 1000 * (n % 23) - 11000 + 37 * channel);
-  return frame;
-}
-
-/* The same with one sample missing. */
-static const uint8_t *nth_missing(int n, int channel) {
-  static uint8_t frame[LONGEST_FRAME];
-  memcpy(frame, nth(n), sizeof frame);
-  put(frame, 2 * channel, GORSEPETAL_MISSING);
-  return frame;
-}
-
 /* The state after a frame was kept: the window moved on, the numbers behind it as they were, one frame more and 16 at most. */
 static void moved_on(uint8_t *wanted, const uint8_t *frame, int length) {
   int count = 256 * wanted[COUNT] + wanted[COUNT + 1];

@@ -1,4 +1,4 @@
-/* What the C test lends to the five calls, with guard bytes around each slice, and how an answer and what it leaves are checked. */
+/* What the C test lends to the calls, with guard bytes around each slice, and how an answer and what it leaves are checked. */
 #include <stdio.h>
 #include <string.h>
 
@@ -29,6 +29,11 @@ uint8_t *with_reaches(int first, int second) {
   return record;
 }
 
+void with_ends(uint8_t *record, int ends) {
+  memcpy(record, good, RECORD);
+  record[1] = (uint8_t)ends;
+}
+
 /* Checks */
 
 int checks, faults;
@@ -47,8 +52,8 @@ void check(const char *what, uint64_t got, uint64_t wanted) {
   checks++;
   if (got == wanted) return;
   faults++;
-  printf("FAIL %s, %s: got %d at %d, wanted %d at %d\n", case_name, what, (int)GORSEPETAL_NUMBER(got), (int)GORSEPETAL_PLACE(got),
-         (int)GORSEPETAL_NUMBER(wanted), (int)GORSEPETAL_PLACE(wanted));
+  printf("FAIL %s, %s: got %d at %llu, wanted %d at %llu\n", case_name, what, (int)GORSEPETAL_NUMBER(got),
+         (unsigned long long)GORSEPETAL_PLACE(got), (int)GORSEPETAL_NUMBER(wanted), (unsigned long long)GORSEPETAL_PLACE(wanted));
 }
 
 void check_bytes(const char *what, const uint8_t *got, const uint8_t *wanted, size_t length) {
@@ -60,7 +65,7 @@ void check_bytes(const char *what, const uint8_t *got, const uint8_t *wanted, si
 
 /* Slices */
 
-struct lent state, out;
+struct lent state, reader, out;
 
 void put(uint8_t *bytes, int at, int number) {
   bytes[at] = (uint8_t)((unsigned)number >> 8);
@@ -83,6 +88,21 @@ void lend_state(const uint8_t *in_force, const uint8_t *pending) {
   lend(&state, bytes, STATE);
 }
 
+void lend_relay(const uint8_t *in_force, int count, const uint8_t *numbers) {
+  lend_state(in_force, other);
+  put(state.all + GUARD, COUNT, count);
+  memcpy(state.all + GUARD + NUMBERS, numbers, LONGEST);
+}
+
+void lend_line(int ends, int count) {
+  uint8_t record[RECORD], numbers[LONGEST];
+  int kept = GORSEPETAL_WINDOW_BYTES(ends);
+  with_ends(record, ends);
+  memset(numbers, 0, sizeof numbers);
+  memset(numbers + kept, 0x77, (size_t)(LONGEST - kept));
+  lend_relay(record, count, numbers);
+}
+
 void state_is(const uint8_t *in_force, const uint8_t *pending, const uint8_t *window) {
   check_bytes("record in force", state.all + GUARD, in_force, RECORD);
   check_bytes("pending record", state.all + GUARD + RECORD, pending, RECORD);
@@ -103,10 +123,12 @@ static void later_untouched(size_t from) {
 
 void out_untouched(void) { later_untouched(0); }
 
-void out_is(const char *what, const uint8_t *bytes) {
-  check_bytes(what, out.all + GUARD, bytes, DECISION);
-  later_untouched(DECISION);
+void out_begins(const char *what, const uint8_t *bytes, size_t length) {
+  check_bytes(what, out.all + GUARD, bytes, length);
+  later_untouched(length);
 }
+
+void out_is(const char *what, const uint8_t *bytes) { out_begins(what, bytes, DECISION); }
 
 static void guards_kept(const char *what, const struct lent *slice) {
   uint8_t guard[GUARD + ROOM];
@@ -115,7 +137,20 @@ static void guards_kept(const char *what, const struct lent *slice) {
   check_bytes(what, slice->all + GUARD + slice->length, guard, sizeof slice->all - GUARD - slice->length);
 }
 
-/* Windows */
+/* Frames and windows */
+
+const uint8_t *nth(int n) {
+  static uint8_t frame[LONGEST_FRAME];
+  for (int channel = 0; channel < LONGEST_FRAME / 2; channel++) put(frame, 2 * channel, 1000 * (n % 23) - 11000 + 37 * channel);
+  return frame;
+}
+
+const uint8_t *nth_missing(int n, int channel) {
+  static uint8_t frame[LONGEST_FRAME];
+  memcpy(frame, nth(n), sizeof frame);
+  put(frame, 2 * channel, GORSEPETAL_MISSING);
+  return frame;
+}
 
 void phasor(uint8_t *window, int channel, int re, int im) {
   put(window, 2 * channel, 8 * re);
@@ -142,12 +177,20 @@ void fault_on(uint8_t *window, int x, int to_ground, int sign) {
 
 /* Calls */
 
+/* What a call reads and must not change. */
+static struct lent in, in_before;
+
+static void lend_in(const uint8_t *bytes, size_t length) {
+  lend(&in, bytes, length);
+  in_before = in;
+}
+
+static void in_kept(const char *what) { check_bytes(what, in.all, in_before.all, sizeof in.all); }
+
 static uint64_t enter(uint64_t (*call)(uint8_t *, size_t, const uint8_t *, size_t), const uint8_t *bytes, size_t length) {
-  struct lent entry, before;
-  lend(&entry, bytes, length);
-  before = entry;
-  uint64_t answer = call(state.all + GUARD, state.length, entry.all + GUARD, entry.length);
-  check_bytes("entry", entry.all, before.all, sizeof entry.all);
+  lend_in(bytes, length);
+  uint64_t answer = call(state.all + GUARD, state.length, in.all + GUARD, in.length);
+  in_kept("entry");
   guards_kept("around the state", &state);
   return answer;
 }
@@ -165,26 +208,62 @@ uint64_t read_back(size_t room) {
 }
 
 uint64_t decide(const uint8_t *bytes, size_t length, size_t room) {
-  struct lent before = state, samples, window;
-  lend(&samples, bytes, length);
-  window = samples;
+  struct lent before = state;
+  lend_in(bytes, length);
   lend_out(room);
-  uint64_t answer =
-      gorsepetal_decide(state.all + GUARD, state.length, samples.all + GUARD, samples.length, out.all + GUARD, out.length);
+  uint64_t answer = gorsepetal_decide(state.all + GUARD, state.length, in.all + GUARD, in.length, out.all + GUARD, out.length);
   check_bytes("state", state.all, before.all, sizeof state.all);
-  check_bytes("samples", samples.all, window.all, sizeof samples.all);
+  in_kept("samples");
   guards_kept("around out", &out);
   return answer;
 }
 
 uint64_t feed(const uint8_t *bytes, size_t length, size_t room) {
-  struct lent frame, before;
-  lend(&frame, bytes, length);
-  before = frame;
+  lend_in(bytes, length);
   lend_out(room);
-  uint64_t answer = gorsepetal_feed(state.all + GUARD, state.length, frame.all + GUARD, frame.length, out.all + GUARD, out.length);
-  check_bytes("frame", frame.all, before.all, sizeof frame.all);
+  uint64_t answer = gorsepetal_feed(state.all + GUARD, state.length, in.all + GUARD, in.length, out.all + GUARD, out.length);
+  in_kept("frame");
   guards_kept("around the state", &state);
+  guards_kept("around out", &out);
+  return answer;
+}
+
+uint64_t events_open(uint64_t ends, uint64_t status) {
+  uint64_t answer = gorsepetal_events_open(reader.all + GUARD, reader.length, ends, status);
+  guards_kept("around the reader", &reader);
+  return answer;
+}
+
+uint64_t events_wanted(void) {
+  struct lent before = reader;
+  uint64_t count = gorsepetal_events_wanted(reader.all + GUARD, reader.length);
+  check_bytes("reader", reader.all, before.all, sizeof reader.all);
+  return count;
+}
+
+uint64_t events_read(const uint8_t *bytes, size_t length, size_t room) {
+  lend_in(bytes, length);
+  lend_out(room);
+  uint64_t answer = gorsepetal_events_read(state.all + GUARD, state.length, reader.all + GUARD, reader.length, in.all + GUARD, in.length,
+                                           out.all + GUARD, out.length);
+  in_kept("piece");
+  guards_kept("around the state", &state);
+  guards_kept("around the reader", &reader);
+  guards_kept("around out", &out);
+  return answer;
+}
+
+uint64_t events_end(void) {
+  uint64_t answer = gorsepetal_events_end(reader.all + GUARD, reader.length);
+  guards_kept("around the reader", &reader);
+  return answer;
+}
+
+uint64_t events_write(uint64_t ends, uint64_t written, uint32_t time, const uint8_t *frame, size_t length, size_t room) {
+  lend_in(frame, length);
+  lend_out(room);
+  uint64_t answer = gorsepetal_events_write(ends, written, time, in.all + GUARD, in.length, out.all + GUARD, out.length);
+  in_kept("frame");
   guards_kept("around out", &out);
   return answer;
 }

@@ -6,19 +6,21 @@
   declare. In it the tables of numbers, of fields, of the state, of the window, of a decision and of the loops, each call's list of checks,
   what is said of feed and the formulas of the rules have the source's figures and order, the limits those of the transform, the worked
   record follows from its own formulas, and the worked decision, the tests at the panel and what is said of balanced faults from the
-  independent program.
-- What docs/RULES.md and the manual say that an answer leaves of the state and of the lent room is what the independent program leaves.
+  independent program. The bytes of an event file's record and of its reader are the source's; what ends a reading, and what is noticed of a
+  file and what is not, the independent program shows.
+- What docs/RULES.md and the manual say that an answer leaves of the state, of a reader and of the lent room is what the independent program
+  leaves.
 - In README.md, docs/ and tests/independent/README.md each path in backticks is there (`*` stands for any name), and each link leads to a
   file and a heading that are. In README.md and docs/, in `name` in `path`, or `a`, `b` in `path`, each name is declared in that file; below
   a paragraph "Files:" each name is declared in one of its files, and each of these declares a name there. The commands that README.md shows
   are there, and what it shows as printed is an example's. Code, laws and edits that a page quotes stand so in the crates. What README.md and
   the newest version in docs/CHANGES.md say of the state and of the header's names is so.
-- docs/CLAIMS.md: its table names each promise of the one statement in crates/claims, below the file that proves it, and the one statement
-  has every statement of that crate; the counts of assumed C functions are those that the checks of the crates gave, which must all have
-  been proved here.
+- docs/CLAIMS.md: its table names each promise of the one statement in crates/promises, below the file that proves it, and the one statement
+  has every statement of crates/claims and crates/event_claims; the counts of assumed C functions are those that the checks of the crates
+  gave, which must all have been proved here.
 - docs/WRONG-RELAYS.md: it names each must-fail edit below its crate, in the order of the layers, and no other.
-- docs/HAND-CHECKS.md: its sums come out; in its root each call follows from the next; its example of feed, and its tables of several
-  faults at once, say what the independent program does.
+- docs/HAND-CHECKS.md: its sums come out; in its root each call follows from the next; its example of feed, its event files, and its tables
+  of several faults at once, say what the independent program does.
 - docs/RULES.md: its rules are numbered, and each says by which request it stands and names definitions, which have its figures, or for a
   rule of ours a section of the manual; its tables and drawings say what the source says; its examples follow from their formulas.
 - crates.txt names what each crate uses, and nothing more. One function calls itself, and the header says so.
@@ -32,7 +34,10 @@ import axioms  # noqa: E402
 import balanced  # noqa: E402
 import boundary  # noqa: E402
 import documents  # noqa: E402
+import events  # noqa: E402
+import events_left  # noqa: E402
 import hand_checks  # noqa: E402
+import hand_events  # noqa: E402
 import header  # noqa: E402
 import layers  # noqa: E402
 import left  # noqa: E402
@@ -67,16 +72,23 @@ def main():
         'sentences on lost voltages': balanced.check_fuses(),
         'faults close behind': balanced.check_behind(),
         'rows on what an answer leaves': left.check_left(),
+        "parts of an event file's record in the manual": events.check_record(),
+        'parts of a reader in the manual': events.check_reader(),
+        'answers to a reading in the manual': events.check_answers(),
+        'sentences on event files in the manual': events.check_damage(),
+        'rows on what a call for event files leaves': events_left.check_left(),
         'sums in the hand checks': hand_checks.check_sums(),
         'calls of a root in the hand checks': hand_checks.check_root(),
         'steps of feed in the hand checks': hand_checks.check_fed(),
         'answers to several faults at once': hand_checks.check_orders(),
+        'steps with event files in the hand checks': hand_events.check_events(),
         'rules': rules.check_rules(),
         'figures in the rules': rules.check_figures(),
         'fields in the rules': rules.check_settings(),
         'numbers in the rules': rules.check_answers(),
         'lines of samples in the rules': rules.check_measuring(),
         'bytes and loops in the rules': rules.check_decision(),
+        'parts of records and readers in the rules': rules.check_events(),
         'lines of the program in the rules': rules.check_lines(),
         'paths': documents.check_paths(),
         'links': documents.check_links(),

@@ -211,17 +211,20 @@ def check_symbols():
 
 
 def check_relay():
-    """What README.md says of the relay's state and of feed; and in the newest version of docs/CHANGES.md, where bytes of the state or frames
-    are counted, their count."""
+    """What README.md says of the relay's state and of feed; and in the newest version of docs/CHANGES.md, where bytes of the state, of a reader
+    or of an event file's record, or frames are counted, their count."""
     *begins, length = header.state_offsets()
     records, empty, text = begins[2], header.constants('samples')['FRAMES'] - 1, newest()
+    reader = [header.constants('events').get('LENGTH'), *(at for part in header.reader_parts().values() for at in part)]
     wanted = f'a relay is {length} bytes', f'for {empty} frames after it there is no decision by feed'
     faults.extend(f'{README}: it does not say "{words}"' for words in wanted if words not in ' '.join(document(README).split()))
     parts = re.findall(r'\bbytes (\d+) to (\d+)', text)
-    wrong = [f'{number} bytes' for number in re.findall(r'\b(\d+)(?: zero)? bytes', text) if int(number) not in (records, length - records, length)]
-    wrong += [f'bytes {first} to {last}' for first, last in parts if int(first) not in begins or int(last) + 1 not in (*begins, length)]
+    lengths = {records, length - records, length, reader[0], *(header.record_bytes(ends, status) for ends in range(2, 7) for status in range(97))}
+    wrong = [f'{number} bytes' for number in re.findall(r'\b(\d+)(?: zero)? bytes', text) if int(number) not in lengths]
+    wrong += [f'bytes {first} to {last}' for first, last in parts
+              if not any(int(first) in known and int(last) + 1 in known for known in ((*begins, length), reader))]
     wrong += [f'{number} frames' for number in re.findall(r'\b(\d+) frames', text) if int(number) not in (empty, empty + 1)]
-    faults.extend(f'{header.CHANGES}: {words} are not what the state has' for words in wrong)
+    faults.extend(f'{header.CHANGES}: {words} are not what the state, a reader or a record has' for words in wrong)
     return 2 + len(parts)
 
 

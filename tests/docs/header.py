@@ -4,12 +4,16 @@ import re
 from functools import cache
 from pathlib import Path
 
-from tree import blank, fault, faults, read, sources
+from tree import ROOT, blank, fault, faults, read, sources
 
 HEADER = Path('include/gorsepetal.h')
 CHANGES = Path('docs/CHANGES.md')
-GIVEN_BACK = Path('crates/claims/specs/GivenBack.antt')
+CLAIMS = ('claims', 'event_claims')  # the crates that state what a call answers
 STORED = Path('crates/stream/specs/Stored.antt')
+WINDOW = Path('crates/samples/specs/Window.antt')
+RECORD = Path('crates/records/specs/Record.antt')
+READER = Path('crates/files/specs/Reader.antt')
+ANSWERS = Path('crates/answers/specs/Answers.antt')
 C_TYPES = {'usize': 'size_t', **{f'{kind}{bits}': f'{"u" * (kind == "u")}int{bits}_t' for kind in 'ui' for bits in (8, 16, 32, 64)}}
 
 
@@ -51,7 +55,7 @@ def exported():
 
 def check_functions():
     wanted, text, seen = exported(), header(), set()
-    bare = blank(r'^[ \t]*#[^\n]*|extern\s+"C"\s*\{|\}', text)
+    bare = blank(r'^[ \t]*#(?:[^\n]*\\\n)*[^\n]*|extern\s+"C"\s*\{|\}', text)
     for m in re.finditer(r'[^;\s][^;]*;?', bare):
         name = re.search(r'(\w+)\s*\(', m.group())
         name = name.group(1) if name else ''
@@ -98,10 +102,16 @@ def public(crate, file='lib.rt'):
     return {name: value for name, value in constants(crate, file).items() if re.search(rf'\bpub const {name}\b', text)}
 
 
-def definition(path, name):
-    """The text of a definition in specs/, its equations in one line."""
-    m = re.search(rf'^{name} [^:=\n]*=((?:.*\n)(?:[ ]+.*\n)*)', blank(r'--[^\n]*', read(Path(path))), flags=re.MULTILINE)
+def definition_in(text, name):
+    """The text of a definition, its equations in one line."""
+    m = re.search(rf'^{name}(?: [^:=\n]*)? =((?:.*\n)(?:[ ]+.*\n)*)', blank(r'--[^\n]*', text), flags=re.MULTILINE)
     return ' '.join(m.group(1).split()) if m else ''
+
+
+@cache
+def definition(path, name):
+    """The same of a file in specs/."""
+    return definition_in(read(Path(path)), name)
 
 
 def weights(path, name):
@@ -156,14 +166,77 @@ def state_offsets():
     return [relay['MAIN'], relay['PENDING'], relay['WINDOW'], relay['WINDOW'] + int(numbers[1] if numbers else 0), relay['STATE_LENGTH']]
 
 
+def channels(ends):
+    """The numbers of a frame, by the definition."""
+    return eval(definition(WINDOW, 'channels') or '0', {'N': ends})
+
+
+@cache
+def record_bytes(ends, status):
+    """The bytes of a record of an event file, by the definitions of crates/records: with channels of 16 bits."""
+    width = re.search(r'width = (\d+)', definition(RECORD, 'narrow'))
+    groups, length = (definition(RECORD, name).replace('/', '//') for name in ('groups', 'recordLength'))
+    length = re.sub(r'\bsh \.(\w+)', r'\1', length)
+    if not width or not re.fullmatch(r'[\w\s()+*/]+', groups + length):
+        faults.append(f'{RECORD}: `narrow`, `groups` or `recordLength` has a form that this check does not know')
+        return 0
+    known = {'width': int(width[1]), 'ends': ends, 'status': status, 'channels': channels}
+    return eval(length, {**known, 'groups': lambda status: eval(groups, {'status': status})})
+
+
+def reader_parts():
+    """Where each part of a reader lies, by its name in crates/events: the first byte and the one behind the last. Behind the frame of six ends
+    and before the bytes in hand some are not used."""
+    at = constants('events')
+    names = ['ENDS', 'STATUS', 'ENDED', 'HELD', 'INDEX', 'TIME', 'FRAME', 'HAND', 'LENGTH']
+    if any(at.get(name) is None for name in names):
+        faults.append(f'crates/events/src/lib.rt: not all of {", ".join(names)} are constants with a number')
+        return {}
+    begins = [at[name] for name in names]
+    parts = {name: (first, end) for name, first, end in zip(names, begins, begins[1:])}
+    behind = at['FRAME'] + 2 * channels(6)
+    return {**parts, 'FRAME': (at['FRAME'], behind), 'UNUSED': (behind, at['HAND'])}
+
+
+def endings():
+    """The numbers that end the reading of an event file, in the order of the definitions, each with whether it has a place."""
+    numbered = dict(re.findall(r'^number \(?(\w+)(?: at\))? = (\d+)$', read(ANSWERS), flags=re.MULTILINE))
+    found = re.findall(r'^answerOf (\(?)\w+(?: \w+\))? = answer\.(\w+)', read(READER), flags=re.MULTILINE)
+    return {int(numbered[name]): bool(placed) for placed, name in found}
+
+
+def rows(name, blocks):
+    """The numbers of a data type of rows, in the order of its constructors, each with whether it has a place: a number, 256 times a place plus
+    a number, what ended a reading, or what another type of rows gives where a relay was lent."""
+    found = {}
+    for value in re.finditer(rf'{name}Row(?: \w+)+? (\d+|n|\(.*\))$', blocks[name], flags=re.MULTILINE):
+        placed, other = re.fullmatch(r'\(256 \* \w+ \+ (\d+)\)', value[1]), re.findall(r'(\w+)Row [^→]* n →', blocks[name][:value.start()])
+        if value[1].isdigit() or placed:
+            more = {int(placed[1] if placed else value[1]): bool(placed)}
+        elif value[1] == 'n' and other:
+            more = {number: has_place for number, has_place in rows(other[-1], blocks).items() if number != constants('answers')['NO_RELAY']}
+        elif value[1] == '(givenBack (answerOf e))':
+            more = endings()
+        else:
+            faults.append(f'{name}Row has a row that this check does not know: {value[0]}')
+            continue
+        found |= {number: has_place or found.get(number, False) for number, has_place in more.items()}
+    return found
+
+
 @cache
 def answers():
-    """Each call with the numbers that it gives, in its order of checks, each with whether it has a place: the rows of crates/claims."""
+    """Each call with the numbers that it gives, in its order of checks, each with whether it has a place: the rows that the crates of claims
+    state of it."""
+    texts = [path.read_text(encoding='utf-8') for crate in CLAIMS for path in sorted((ROOT / 'crates' / crate / 'specs').glob('*.antt'))]
+    data = r'^pub data (\w+)Row .*?\n(.*?)(?=^\S|\Z)'
+    blocks = dict(block for text in texts for block in re.findall(data, text, flags=re.DOTALL | re.MULTILINE))
     found = {}
-    for m in re.finditer(r'^pub data (\w+)Row .*?\n(.*?)(?=^\S|\Z)', read(GIVEN_BACK), flags=re.DOTALL | re.MULTILINE):
-        call = re.sub(r'(?<=.)([A-Z])', r'_\1', m[1]).lower()
-        rows = re.findall(rf'{m[1]}Row \w+ \w+(?: \w+)? (?:(\d+)|\(256 \* k \+ (\d+)\))$', m[2], flags=re.MULTILINE)
-        found[call] = {int(plain or placed): bool(placed) for plain, placed in rows}
+    for text in texts:
+        for statement in re.findall(r'^abbrev pub (\w+)Answers : Type 0$', text, flags=re.MULTILINE):
+            call = re.sub(r'(?<=.)([A-Z])', r'_\1', statement).lower()
+            of_call = re.findall(r'\b(\w+)Row\b', definition_in(text, f'{statement}Answers'))
+            found[call] = rows(of_call[-1], blocks) if of_call else {}
     return found
 
 
@@ -188,6 +261,7 @@ def wanted_constants():
     return {
         **version(), **public('answers'), **public('gorsepetal'),
         **{f'AT_{name}': value for name, value in public('settings', 'at.rt').items()},
+        **{f'EVENTS_{name}': value for name, value in public('events').items()},
         'FRAMES': samples['FRAMES'], 'MISSING': samples['MISSING'], 'LARGEST_SAMPLE': -samples['MISSING'] - 1,
         'STATE_AT_IN_FORCE': in_force, 'STATE_AT_PENDING': pending, 'STATE_AT_COUNT': count, 'STATE_AT_NUMBERS': numbers, **decision_offsets(),
         **{f'PHASE_{name}': bit for name, bit in phases.items()}, **{f'LOOP_{name}': bit for name, bit in loops.items()}, **directions(),
@@ -207,26 +281,30 @@ def check_constants():
     return len(wanted)
 
 
-def macro(name, argument, text):
-    """What the header's macro NAME(x) comes to, for a whole number x; None where it has no such macro of numbers and x alone."""
-    m = re.search(rf'^[ \t]*#[ \t]*define[ \t]+GORSEPETAL_{name}\((\w+)\)[ \t]+(.+)$', text, flags=re.MULTILINE)
-    expression = re.sub(rf'\b{m.group(1)}\b', str(argument), m.group(2)).replace('/', '//') if m else ''
+def macro(name, arguments, text):
+    """What the header's macro NAME(x, ..) comes to, for whole numbers; None where it has no such macro of numbers and of these alone."""
+    m = re.search(rf'^[ \t]*#[ \t]*define[ \t]+GORSEPETAL_{name}\(([\w, ]+)\)[ \t]+(.+)$', text.replace('\\\n', ' '), flags=re.MULTILINE)
+    expression = m[2].replace('/', '//') if m else ''
+    for parameter, argument in zip(m[1].split(', ') if m else (), arguments):
+        expression = re.sub(rf'\b{parameter}\b', str(argument), expression)
     return eval(expression) if re.fullmatch(r'[\d\s()+*/%-]+', expression) else None
 
 
 def check_macros():
-    """The macros that reckon, at values that tell: a frame's numbers and bytes and a window's bytes for each number of ends, and what a call
-    gives back taken apart."""
+    """The macros that reckon, at values that tell: a frame's numbers and bytes and a window's bytes for each number of ends, a record's bytes
+    of an event file, and what a call gives back taken apart."""
     text, source = header(), ' '.join(text for _, text in sources('answers', 'gorsepetal', 'samples'))
     weight = number(re.search(r'\bconst PLACE_WEIGHT: u64 = (\d+);', source).group(1))
-    frames = constants('samples')['FRAMES']
-    wanted = {('WINDOW_BYTES', ends): 2 * frames * (3 + 3 * ends) for ends in range(2, 7)}
-    wanted |= {('CHANNELS', ends): 3 + 3 * ends for ends in range(2, 7)}
-    wanted |= {('FRAME_BYTES', ends): 2 * (3 + 3 * ends) for ends in range(2, 7)}
-    wanted |= {('NUMBER', given): given % weight for given in (0, 17, 335 * weight + 4)}
-    wanted |= {('PLACE', given): given // weight for given in (0, 17, 335 * weight + 4)}
-    if wanted['WINDOW_BYTES', 6] != 2 * public('gorsepetal')['LONGEST_WINDOW_NUMBERS']:
+    frames, all_ends = constants('samples')['FRAMES'], range(2, 7)
+    wanted = {('WINDOW_BYTES', (ends,)): 2 * frames * (3 + 3 * ends) for ends in all_ends}
+    wanted |= {('CHANNELS', (ends,)): 3 + 3 * ends for ends in all_ends}
+    wanted |= {('FRAME_BYTES', (ends,)): 2 * (3 + 3 * ends) for ends in all_ends}
+    wanted |= {('EVENTS_RECORD_BYTES', (ends, status)): record_bytes(ends, status) for ends in all_ends
+               for status in (0, 1, 15, 16, 17, 32, 33, 80, 81, 95, 96)}
+    wanted |= {('NUMBER', (given,)): given % weight for given in (0, 17, 335 * weight + 4, 4294967295 * weight + 12)}
+    wanted |= {('PLACE', (given,)): given // weight for given in (0, 17, 335 * weight + 4, 4294967295 * weight + 12)}
+    if wanted['WINDOW_BYTES', (6,)] != 2 * public('gorsepetal')['LONGEST_WINDOW_NUMBERS']:
         faults.append('crates/samples: the longest window is not that of six ends')
-    faults.extend(f'{HEADER}: GORSEPETAL_{name}({argument}) is {macro(name, argument, text)}; the source has {value}'
-                  for (name, argument), value in wanted.items() if macro(name, argument, text) != value)
+    faults.extend(f'{HEADER}: GORSEPETAL_{name}{arguments} is {macro(name, arguments, text)}; the source has {value}'
+                  for (name, arguments), value in wanted.items() if macro(name, arguments, text) != value)
     return len({name for name, _ in wanted})

@@ -146,7 +146,7 @@ def check_left():
         if {c.number for c in calls} != answers()[name].keys():
             faults.append(f'{name}: the independent program gives {sorted({c.number for c in calls})}; the source has {sorted(answers()[name])}')
         for c in calls:
-            told = [cells for other, number, cells in rows if other in (name, 'every call') and number == c.number]
+            told = [cells for calls, number, cells in rows if name in calls.split(', ') and number == c.number]
             if not as_told(c, told):
                 faults.append(f'{rules.PAGE}: {name} answered {c.number} does not leave {told}')
     if sorted(number for number, _ in above_feed()) != sorted(answers()['feed']):

@@ -6,12 +6,14 @@ import re
 from itertools import groupby
 from pathlib import Path
 
-from header import HEADER, answers, constants, decision_offsets, directions, header, placed, public, six_loops, state_offsets, weights
+from header import (HEADER, answers, constants, decision_offsets, directions, exported, header, placed, public, reader_parts, six_loops,
+                    state_offsets, weights)
 from tree import blank, fault, faults, read
 
 TABLE = Path('crates/settings/specs/Table.antt')
 SEQUENCE = Path('crates/distance/specs/Sequence.antt')
 COLUMNS = 100
+COUNTS = {'events_wanted'}  # what gives back a count, and no answer of the table
 
 
 def section(title):
@@ -47,28 +49,32 @@ def check_columns():
 
 
 def check_number_table():
-    """The table of numbers is that of crates/answers: each with its name, a place where it has one, and the calls that give it. Each call's
-    comment lists its checks in their order, each with or without a place. The numbers that are said to be free are."""
+    """The table of numbers is that of crates/answers: each with its name, and a place where it has one. Who gives what, and in which order,
+    is what the crates state; each call's comment lists its checks in that order too, each with or without a place. The numbers that are said
+    to be free are."""
     text, given = section('WHAT COMES BACK'), answers()
-    rows = re.findall(r'^\*\*   (\d+)\s+([A-Z_]+)\s.*?\s{2,}(0|index of first|offset of \w+)\s{2,}(\S.*)$', text, flags=re.MULTILINE)
-    found = [(int(number), name, place != '0', calls) for number, name, place, calls in rows]
-    wanted = []
-    for name, number in public('answers').items():
-        calls = [call for call in given if number in given[call]]
-        wanted.append((number, name, number in placed(), 'every call' if calls == [*given] else ', '.join(calls)))
+    rows = re.findall(r'^\*\*   (\d+)\s+([A-Z_]+)\s.*?\s{2,}(0|(?:index|offset) of \w+)$', text, flags=re.MULTILINE)
+    found = [(int(number), name, place != '0') for number, name, place in rows]
+    wanted = [(number, name, number in placed()) for name, number in public('answers').items()]
     if found != wanted:
         faults.append(f'{HEADER}: the table of numbers has {found}; the source has {wanted}')
+    calls = {call: [int(number) for number in order.split(', ')]
+             for call, order in re.findall(r'^\*\*   ([a-z_]+) +((?:\d+, )*\d+)$', text, flags=re.MULTILINE)}
+    orders = {call: [number for number in numbers if number] for call, numbers in given.items()}
+    if calls != orders:
+        faults.append(f'{HEADER}: the calls are said to give {calls}; the source has {orders}')
     free = [number for number in range(18) if number not in public('answers').values()]
     if free and f'{free[0]} to {free[-1]} are not in use' not in plain('WHAT COMES BACK'):
         faults.append(f'{HEADER}: WHAT COMES BACK does not say that {free[0]} to {free[-1]} are not in use')
     for call, comment in comments().items():
-        listed = re.findall(r'^\*\*   (\d+) +(?:at (0|index|offset)|state_len) ', comment, flags=re.MULTILINE)
+        listed = re.findall(r'^\*\*   (\d+) +(?:at (0|index|offset)|state_len|reader_len) ', comment, flags=re.MULTILINE)
         order = [(number, placed) for number, placed in given.get(call, {}).items() if number]
         if [(int(number), place not in ('', '0')) for number, place in listed] != order:
             faults.append(f'{HEADER}: {call} lists the checks {listed}; the source has {order}')
-    if comments().keys() != given.keys():
-        faults.append(f'{HEADER}: {[*comments()]} have a comment; the source has {[*given]}')
-    return len(rows)
+    declared = {name.removeprefix('gorsepetal_') for name in exported()}
+    if comments().keys() != declared or given.keys() != declared - COUNTS:
+        faults.append(f'{HEADER}: {[*comments()]} have a comment, and answers are stated of {[*given]}; the source exports {sorted(declared)}')
+    return len(rows) + len(calls)
 
 
 # The state and feed
@@ -76,19 +82,22 @@ def check_number_table():
 
 def check_state():
     """The parts of the state as they are drawn. Where the manual and the calls' comments speak of bytes of the state, they are whole parts of
-    it, and its length is the source's."""
+    it, and its length is the source's. The same of the reader, which alone the comments of the calls for event files speak of so."""
     offsets, text = state_offsets(), section("THE RELAY'S STATE")
     *begins, length = offsets
     drawn = [[int(at) for at in row] for row in re.findall(r'^\*\*   bytes (\d+) to (\d+)  ', text, flags=re.MULTILINE)]
     if drawn != [[first, last - 1] for first, last in zip(offsets, offsets[1:])]:
         faults.append(f'{HEADER}: the state is drawn as {drawn}; its parts begin at {begins}, and it has {length} bytes')
     told = {"THE RELAY'S STATE": words(text), 'FRAME BY FRAME': plain('FRAME BY FRAME'), **{call: words(text) for call, text in comments().items()}}
+    reader = [*dict.fromkeys(at for part in reader_parts().values() for at in part)]
     for where, said in told.items():
-        parts = re.findall(r'\bbytes (\d+) (?:to|and) (\d+)', said)
-        faults.extend(f'{HEADER}: {where} has bytes {first} to {last}, which are no parts of the state' for first, last in parts
-                      if int(first) not in begins or int(last) + 1 not in offsets)
+        known = reader if where.startswith('events_') else offsets
+        parts = re.findall(r'\b[Bb]ytes (\d+) (?:to|and) (\d+)', said)
+        faults.extend(f'{HEADER}: {where} has bytes {first} to {last}, which are no parts of what is lent' for first, last in parts
+                      if int(first) not in known or int(last) + 1 not in known)
         lengths = re.findall(r'(?:A relay is|the relay,|state_len is not|begin again with|with all) (\d+)', said)
-        if set(lengths) - {str(length)} or where in answers() and len(lengths) != 2:
+        lent = 2 if f'gorsepetal_{where}' in exported() and '_t *state,' in exported()[f'gorsepetal_{where}'] else 0
+        if set(lengths) - {str(length)} or where in comments() and len(lengths) != lent:
             faults.append(f'{HEADER}: {where} has {lengths} for the length of the state, which is {length}')
     for where, wanted, count in (("THE RELAY'S STATE", f'{length - begins[2]} zero bytes behind them', 2),
                                  ("THE RELAY'S STATE", f'store the two records, bytes 0 to {begins[2] - 1}, in permanent memory', 1),

@@ -6,9 +6,9 @@ import header
 from documents import declares
 from tree import ROOT, faults, read
 
-STATEMENT = Path('crates/claims/specs/Reader.antt')
-WITNESS = Path('crates/claims/proofs/Reader.antt')
-CONTRACTS = Path('crates/gorsepetal/proofs/Contracts.antt')
+STATEMENT = Path('crates/promises/specs/Promises.antt')
+WITNESS = Path('crates/promises/proofs/Promises.antt')
+CONTRACTS = Path('crates/gorsepetal/proofs')
 CLAIMS = Path('docs/CLAIMS.md')
 
 
@@ -28,22 +28,27 @@ def named(page):
     return found
 
 
-# What is stated in crates/claims as a part of promises, and is none itself.
-PARTS = {'Complex', 'OneResult'}
+def contracts():
+    """What says that a function's contract is its claim: all of it."""
+    return ''.join(path.read_text(encoding='utf-8') for path in sorted((ROOT / CONTRACTS).glob('*Contracts.antt')))
+
+
+# What is stated in these crates as a part of promises, and is none itself.
+PARTS = {'Claim', 'Complex', 'OneResult'}
 
 
 def unused(promised):
-    """Statements of crates/claims that no promise is made of."""
+    """Statements of crates/claims and crates/event_claims that no promise is made of."""
     types = ' '.join(promised.values())
-    for path in (ROOT / 'crates/claims/specs').glob('*.antt'):
-        for name in re.findall(r'^abbrev pub (\w+) : (?:Claim → )?Type 0$', path.read_text(encoding='utf-8'), flags=re.MULTILINE):
+    for path in sorted(path for crate in header.CLAIMS for path in (ROOT / 'crates' / crate / 'specs').glob('*.antt')):
+        for name in re.findall(r'^abbrev pub (\w+) : (?:Claim → )?Type [01]$', path.read_text(encoding='utf-8'), flags=re.MULTILINE):
             if name not in PARTS and not re.search(rf'(?<![\w-]){name}(?![\w-])', types):
                 yield path.relative_to(ROOT), name
 
 
 def check_promises():
     """The page names each promise and no other, below the file that proves it; the witness gives each; each exported function has its
-    contract and its one result among them; and no statement of crates/claims is left out."""
+    contract and its one result among them; and no statement of the crates of claims is left out."""
     page, witness, promised = read(CLAIMS), read(WITNESS), fields()
     if len(promised) != len(re.findall(r'^  pub ', read(STATEMENT), flags=re.MULTILINE)):
         faults.append(f'{STATEMENT}: a promise is not on one line, and this check does not see it')
@@ -60,8 +65,9 @@ def check_promises():
         statement = ''.join(word.capitalize() for word in call.split('_')) + 'Contract'
         if promised.get(f'{call.replace("_", "-")}-contract') != statement:
             faults.append(f'{STATEMENT}: {function}, which C can call, has no contract of type {statement} among the promises')
-        claim = re.search(rf'^{statement} =\n.*\n.* \((\w+) \(now s\)', read(CONTRACTS), flags=re.MULTILINE)
-        if not claim or f'One{claim.group(1)}' not in promised.values():
+        claim = re.search(rf'^{statement} =\n.*\n.* \((\w+) (?:\w+ )*\(now \w+\)', contracts(), flags=re.MULTILINE)
+        equation = re.search(rf'^{statement} =\n.*\n.*\(n ≡ \w+ \(now \w+\)\)', contracts(), flags=re.MULTILINE)  # which leaves one number
+        if not equation and (not claim or f'One{claim.group(1)}' not in promised.values()):
             faults.append(f'{STATEMENT}: no promise that {function} has one result')
     faults.extend(f'{path}: no promise of {STATEMENT} is `{name}`' for path, name in unused(promised))
     return len(promised)

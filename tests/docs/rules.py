@@ -16,11 +16,9 @@ PAGE = Path('docs/RULES.md')
 SESSION = Path('crates/session/src/lib.rt')
 DIFFERENTIAL = Path('crates/differential/specs/Differential.antt')
 RATE = Path('crates/phasors/specs/Rate.antt')
-WINDOW = Path('crates/samples/specs/Window.antt')
 MHO = Path('crates/distance/specs/Mho.antt')
 PROGRAM = Path('crates/report/specs/Program.antt')
 OURS = 'ours'  # what neither document 01 nor a request has; the manual has it
-REQUESTS = ['01', OURS] + [f'CR {n}' for n in range(1, 15)]
 
 
 class Rule(NamedTuple):
@@ -98,7 +96,7 @@ def definitions():
 def constants():
     """The definitions that are a number: as a numeral, or as a sum of products of such definitions and of windows' lengths."""
     found = {name: re.search(rf'^{re.escape(name)} = ([\w ()+*]+)$', text, flags=re.MULTILINE) for name, text in definitions().items()}
-    written = {name: re.sub(r'\bwindowLength (\d)', lambda m: f'frames * {channels(int(m[1]))}', m[1]) for name, m in found.items() if m}
+    written = {name: re.sub(r'\bwindowLength (\d)', lambda m: f'frames * {header.channels(int(m[1]))}', m[1]) for name, m in found.items() if m}
 
     def value(expression):
         names = {name: value(written[name]) if name in written else None for name in re.findall(r'[^\W\d]\w*', expression)}
@@ -113,17 +111,14 @@ def figures(name, further=1):
     """The numbers in a definition, in the constants and of the answers that it names, and in the definitions that it names."""
     text = re.sub(r'\bnegsuc (\d+)', lambda m: str(int(m[1]) + 1), definitions().get(name, ''))
     words = set(re.findall(r'[^\s(){},;.]+', text)) - {name}
-    known = {**constants(), **{answer: int(n) for answer, n in re.findall(r'^number (\w+) = (\d+)$', definitions()['number'], flags=re.MULTILINE)}}
+    given = re.findall(r'^number \(?(\w+)(?: at\))? = (\d+)$', definitions()['number'], flags=re.MULTILINE)
+    known = {**constants(), **{answer: int(n) for answer, n in given}}
     found = {abs(n) for n in numbers(text)} | {known[word] for word in {name, *words} if word in known}
     return found.union(*(figures(word, further - 1) for word in words if further and word in definitions()))
 
 
-def channels(ends):
-    return eval(header.definition(WINDOW, 'channels'), {'N': ends})
-
-
 def lengths():
-    return [constants()['frames'] * channels(ends) for ends in range(2, constants()['mostEnds'] + 1)]
+    return [constants()['frames'] * header.channels(ends) for ends in range(2, constants()['mostEnds'] + 1)]
 
 
 def worked_out(name):
@@ -133,13 +128,20 @@ def worked_out(name):
     return {
         'windowLength': set(lengths()) | {2 * length for length in lengths()},
         'Above': {100 * band}, 'NotBelow': {band}, 'oneAndAHalf': figures('sixteen', 0),
-        'numbersOfFrame': {2 * channels(ends) for ends in range(2, constants()['mostEnds'] + 1)},
+        'numbersOfFrame': {2 * header.channels(ends) for ends in range(2, constants()['mostEnds'] + 1)},
         'windowAt': {count, first - 1, first, end - 1, longest}, 'none': {longest}, 'emptied': {end - count},
         'keptAnswer': {constants()['frames'] - 1},
+        'groups': {header.record_bytes(ends, status) for ends in range(2, 7) for status in (0, 96)},
     }.get(name, set())
 
 
 # Checks
+
+
+def requests():
+    """What may have changed a rule: document 01, the requests that the page says are in this version, or neither."""
+    last = re.search(r'In this version are CR 1 to CR (\d+), and no other', ' '.join(read(PAGE).split()))
+    return ['01', OURS] + [f'CR {n}' for n in range(1, int(last[1]) + 1 if last else 1)]
 
 
 def check_rules():
@@ -151,7 +153,7 @@ def check_rules():
         wrong = [
             (not rule.cells, 'has not as many cells as its table has columns'),
             (rule.number != n, f'stands where R{n} should'),
-            (by not in REQUESTS, f'is by "{by}", which is neither 01 nor a request nor "{OURS}"'),
+            (by not in requests(), f'is by "{by}", which is neither 01 nor a request of this version nor "{OURS}"'),
             (by == OURS and not in_manual(rule), f'names "{rule.cells.get("definition")}", where a section of the manual should stand'),
             (by != OURS and not named(rule) or not set(named(rule)) <= known, f'names {named(rule)}, where definitions should stand'),
         ]
@@ -170,11 +172,11 @@ def check_rules():
 def check_figures():
     """Each number from 10 up in a rule, its unit apart, is in a definition that it names, or follows from it, or is in the section of the
     manual that it names."""
-    count, apart = 0, {'rule', 'at', 'bytes', 'bit', 'answer', 'unit', 'by', 'definition'}
+    count, apart = 0, {'rule', 'at', 'bytes', 'reader bytes', 'bit', 'answer', 'unit', 'by', 'definition'}
     for rule in rules():
         said = ' '.join(cell for column, cell in rule.cells.items() if column not in apart)
         wanted = set(map(abs, numbers(in_manual(rule)))).union(*(figures(name) | worked_out(name) for name in named(rule)))
-        for n in numbers(said.replace('bytes 80 00', '')):
+        for n in numbers(re.sub(r'8000 hex|bytes (?:80 00|00 80)', '', said)):
             count += abs(n) >= 10
             if abs(n) >= 10 and abs(n) not in wanted:
                 fault(PAGE, read(PAGE), rule.at, f'R{rule.number} has {n}, which is in none of {named(rule) or rule.cells["definition"]}')
@@ -237,20 +239,21 @@ def check_settings():
 
 
 def check_answers():
-    """The table of numbers has those of crates/answers, each with its calls, and a place where it has one. Each call's order of checks,
+    """The tables of numbers have those of crates/answers, each with its calls, and a place where it has one. Each call's order of checks,
     what each answer leaves, and the drawing of the two entries have the numbers that the call gives."""
     given = header.answers()
-    wanted = [[str(number), name, number in header.placed(), [call for call in given if number in given[call]]]
+    wanted = [[number, name, number in header.placed(), sorted(call for call in given if number in given[call])]
               for name, number in header.public('answers').items()]
-    found = [[number, name, place != '0', calls.split(', ')] for number, name, place, calls in columns('number', 'name', 'place', 'calls')]
-    count = compare('the table of numbers', found, wanted)
-    compare('the orders of the checks', [[call, numbers(order)] for call, order in columns('call', 'order of its checks')],
-            [[call, [number for number in rows if number]] for call, rows in given.items()])
+    found = [[int(number), name, place != '0', sorted(calls.split(', '))]
+             for number, name, place, calls in columns('number', 'name', 'place', 'calls')]
+    count = compare('the table of numbers', sorted(found), sorted(wanted))
+    compare('the orders of the checks', sorted([call, numbers(order)] for call, order in columns('call', 'order of its checks')),
+            sorted([call, [number for number in rows if number]] for call, rows in given.items()))
     left = columns('call', 'answer')
     for call, rows in given.items():
-        told = [n for name, answer in left if name in (call, 'every call') for n in numbers(answer)]
-        if sorted(told) != sorted(rows):
-            faults.append(f'{PAGE}: what {call} leaves is told of {told}; it gives {list(rows)}')
+        told = {n for calls, answer in left if call in calls.split(', ') for n in numbers(answer)}
+        if told != set(rows):
+            faults.append(f'{PAGE}: what {call} leaves is told of {sorted(told)}; it gives {list(rows)}')
     arrows = re.findall(r'\b(propose|confirm): (\d(?:, \d)*)', drawn())
     for call in ('propose', 'confirm'):
         told = {n for name, answer in arrows if name == call for n in numbers(answer)}
@@ -261,16 +264,20 @@ def check_answers():
 
 def meant(number, place):
     """What the row of a number has to name: the rules of the field at its place; the sample there as its N, frame, channel and name; how many
-    frames or bytes there should be."""
+    frames or bytes there should be; the record of an event file, and its number."""
     known, frames = header.public('answers'), constants()['frames']
     if number in (known['OUT_OF_RANGE'], known['DIFFERS']):
         field = place - place % 2 if number == known['DIFFERS'] else place
         return ' or '.join(f'R{rule.number}' for rule in rules() if rule.cells.get('at') == str(field)) + ':'
     if number == known['MISSING_SAMPLE']:
-        frame, channel = divmod(place, channels(2))
+        frame, channel = divmod(place, header.channels(2))
         name = f'I{"abc"[channel % 3]} of end {channel // 3}' if channel >= 3 else f'V{"abc"[channel]}'
         return f'N = 2: frame {frame}, channel {channel}, {name}'
-    return {known['TOO_FEW_FRAMES']: f'fewer than {frames} frames', known['NO_RELAY']: f'the state is not {constants()["stateLength"]} bytes'}.get(number, '')
+    return {
+        known['TOO_FEW_FRAMES']: f'fewer than {frames} frames', known['INSIDE_RECORD']: f'inside record {place},',
+        known['OTHER_NUMBER']: f'the sample number of record {place} is not {place + 1}',
+        known['NO_RELAY']: f'the state is not {constants()["stateLength"]} bytes, or the reader not {constants().get("readerLength")};',
+    }.get(number, '')
 
 
 def check_said():
@@ -289,7 +296,7 @@ def check_said():
         faults.extend(f'{PAGE}: the row "{row["said"]}" of what the relay says lacks {what}' for is_so, what in wrong if is_so)
     divided = [[*map(int, m)] for m in re.findall(r'(\d+) / (\d+) is (\d+), (\d+) left over', read(PAGE))]
     for whole, by, *result in divided:
-        if tuple(result) != divmod(whole, by) or by not in (weight, channels(2)):
+        if tuple(result) != divmod(whole, by) or by not in (weight, header.channels(2)):
             faults.append(f'{PAGE}: {whole} / {by} does not give {result}')
     return len(rows) + len(divided)
 
@@ -305,14 +312,14 @@ def check_measuring():
     compare('the line of the sines', line.get('S', []), table[shift:] + table[:shift])
     head = re.search(r'^N = (\d+): (\d+) channels, (\d+) numbers', drawn(), flags=re.MULTILINE)
     ends, *shown = map(int, head.groups() if head else (0, 0, 0))
-    wide = channels(ends)
+    wide = header.channels(ends)
     compare('the window that is drawn', shown, [wide, constants()['frames'] * wide])
     frames = [numbers(m) for m in re.findall(r'^frame +(\d.*?)(?:  +[a-z]+)?$', drawn(), flags=re.MULTILINE)]
     compare('the indexes that are drawn', frames, [[f, *range(f * wide, (f + 1) * wide)] for f, *_ in frames])
     told = [numbers(rule.cells['now'].partition(':')[2]) for rule in rules() if 'windowLength' in named(rule)]
     compare('the lengths of windows', told, [lengths() + [2 * length for length in lengths()]])
     told = [numbers(rule.cells['now'].partition('bytes:')[2]) for rule in rules() if 'numbersOfFrame' in named(rule)]
-    compare('the lengths of frames', told, [[2 * channels(ends) for ends in range(2, constants()['mostEnds'] + 1)]])
+    compare('the lengths of frames', told, [[2 * header.channels(ends) for ends in range(2, constants()['mostEnds'] + 1)]])
     largest, most = -header.constants('samples')['MISSING'] - 1, constants()['frames']
     *_, count, _, end = header.state_offsets()
     for words in (f'must clip at -{largest} and {largest}', f'the stored bytes 0 to {count - 1} hold',
@@ -352,3 +359,45 @@ def check_lines():
     wanted = re.findall(r'text "([^"]*)\\n"', read(PROGRAM))
     found = re.findall(r'`([^`\n]*#[^`\n]*)`', read(PAGE))
     return compare('the lines of the window program', sorted(found), sorted(wanted))
+
+
+def check_events():
+    """Of event files: the lengths of records, the parts of a reader, the record and the reader that are drawn, and figures that no definition
+    has alone."""
+    told = [numbers(rule.cells['now'].partition(': ')[2]) for rule in rules() if {'recordLength', 'groups'} <= set(named(rule))]
+    every = range(2, constants()['mostEnds'] + 1)
+    lengths_of = {status: [header.record_bytes(ends, status) for ends in every] for status in (0, 96)}
+    compare('the lengths of records', told, [[*lengths_of[0], 96, *lengths_of[96]]])
+    parts, reader = sorted(header.reader_parts().values()), header.constants('events')
+    found = [cell for cell, in columns('reader bytes')]
+    wanted = [f'{first} to {end - 1}' if first + 1 < end else str(first) for first, end in parts]
+    count = compare('the parts of a reader', found, [*wanted, f'all {reader.get("LENGTH")}'])
+    known, *_, begin, _, end = header.public('answers'), *header.state_offsets()
+    inside, other, bad = (known.get(name) for name in ('INSIDE_RECORD', 'OTHER_NUMBER', 'BAD_FILE'))
+    ended, held = reader.get('ENDED'), reader.get('HELD')
+    said = [f'2 to 6 ends, and at most 96 status channels; else {bad} |', f'the first is 1; else {other}, as soon as these four are there',
+            f'whatever comes behind it is {other} at 4294967295', f'with as many records before, or more, it answers {other}',
+            '| time | its bytes 4 to 7:',
+            f'| {inside}, {other}, {bad} | end the reading', f'be it one byte: {inside}. Between records, and without bytes: 0,',
+            f'0 for nothing, {inside} or {other} |', f'ended with {other} or {inside} by byte {ended}; else, if byte {ended} is 0,',
+            f'zeros in state bytes {begin} to {end - 1}', f'{constants()["frames"]} · line frequency', 'N = (A - 3) / 3, and D status channels',
+            f'and byte {held} counts them; where {other} is found, byte {held} stays.', f'and byte {held} is 0.', '| 9 for each record |']
+    page = ' '.join(read(PAGE).split())
+    faults.extend(f'{PAGE}: it does not say "{words}"' for words in said if words not in page)
+    return count + len(told) + len(said) + check_drawn_record()
+
+
+def check_drawn_record():
+    """The record of two ends that is drawn: its bytes, and where its reader holds them."""
+    line = {name: [*zip(*[iter(numbers(rest))] * 2)] for name, rest in re.findall(r'^(record|reader) +(\d.*)$', drawn(), flags=re.MULTILINE)}
+    head = re.search(r'^A record of two ends with (\d+) status channels, (\d+) bytes', drawn(), flags=re.MULTILINE)
+    status, length = map(int, head.groups() if head else (0, 0))
+    bare, whole, reader = header.record_bytes(2, 0), header.record_bytes(2, status), header.constants('events')
+    first = bare - 2 * header.channels(2)
+    blocks = [(at, at + 5) for at in range(first, bare, 6)]
+    index, time, frame = (reader.get(name, 0) for name in ('INDEX', 'TIME', 'FRAME'))
+    compare('its length', [length], [whole])
+    compare('the bytes of the record that is drawn', line.get('record', []), [(0, 3), (4, 7), *blocks, (bare, whole - 1)])
+    compare('the bytes of its reader', line.get('reader', []),
+            [(index, index + 3), (time, time + 3), *((at - first + frame, last - first + frame) for at, last in blocks)])
+    return sum(map(len, line.values()))

@@ -1,10 +1,28 @@
-"""The five calls as the model makes them, in the driver's form, and what each should leave."""
-from typing import NamedTuple
+"""The calls as the model makes them, in the driver's form, and what each should leave."""
+from typing import NamedTuple, Optional
 
 from cases.steps import Step
-from model import decision, differential, feeding, settings
+from model import decision, differential, events, feeding, settings
 
 BEFORE, BEHIND = bytes(range(101, 118)), bytes(range(201, 218))  # odd in length, so that slices also begin at odd addresses
+# Each call: its letter, and the slices that it is lent.
+FORMS = {
+    'propose': ('p', ('state', 'other')), 'confirm': ('c', ('state', 'other')), 'read_back': ('r', ('state', 'other')),
+    'decide': ('d', ('state', 'samples', 'other')), 'feed': ('f', ('state', 'samples', 'other')),
+    'open': ('O', ('reader',)), 'wanted': ('M', ('reader',)), 'end': ('E', ('reader',)),
+    'read': ('R', ('state', 'samples', 'reader', 'other')), 'write': ('W', ('samples', 'other'))}
+EVENTS = ('open', 'wanted', 'read', 'end', 'write')
+
+
+class Left(NamedTuple):
+    """What a call should leave: of settings.Result, and the reader."""
+    number: int  # for wanted, the count
+    place: int
+    state: bytes
+    other: bytes
+    reader: Optional[bytes] = None
+
+    to_c = settings.Result.to_c
 
 
 class Made(NamedTuple):
@@ -12,23 +30,41 @@ class Made(NamedTuple):
     label: str
     state: bytes
     step: Step
-    wanted: settings.Result
+    wanted: Left
+    reader: Optional[bytes]  # that is lent, if one is
 
 
-def with_decision(state, decided, out):
-    """The state that a call leaves, and the buffer with what was decided."""
+def with_decision(state, decided, out, reader=None):
+    """The state that a call leaves, the buffer with what was decided, and the reader that it leaves."""
     number, place, written = decided
     # "It is written at the front of the lent buffer; later bytes stay."
-    return settings.Result(number, place, state, out if written is None else written + out[len(written):])
+    return Left(number, place, state, out if written is None else written + out[len(written):], reader)
 
 
-def result(state, step):
+def event_result(state, reader, step):
+    """What CR 5 of document 02 wants of a step."""
+    if step.call == 'wanted':
+        return Left(events.wanted(reader), 0, state, step.other, reader)
+    if step.call == 'open':
+        reader, decided = events.open_file(reader, *step.numbers)
+    elif step.call == 'end':
+        reader, decided = events.end(reader)
+    elif step.call == 'read':
+        state, reader, decided = events.read(state, reader, step.samples, len(step.other))
+    else:
+        decided = events.write(*step.numbers, step.samples, len(step.other))
+    return with_decision(state, decided, step.other, reader)
+
+
+def result(state, reader, step):
     """What documents 01 and 02 want of a step."""
     if step.call == 'decide':
         return with_decision(state, decision.decide(state, step.samples, len(step.other)), step.other)
     if step.call == 'feed':
         return with_decision(*feeding.feed(state, step.samples, len(step.other)), step.other)
-    return settings.CALLS[step.call](state, step.other)
+    if step.call in EVENTS:
+        return event_result(state, reader, step)
+    return Left(*settings.CALLS[step.call](state, step.other))
 
 
 def window(made):
@@ -50,23 +86,46 @@ def lend(letter, data):
     return letter.encode() + bytes([len(BEFORE)]) + len(data).to_bytes(3, 'big') + guarded(data)
 
 
+def give(*numbers):
+    """Which reader, and the numbers that a call takes. They are no slice of a call and need no guard."""
+    data = b''.join(number.to_bytes(8, 'big') for number in numbers)
+    return b'n' + bytes([0]) + len(data).to_bytes(3, 'big') + data
+
+
 def follow(history):
     """The model's way through a history: the calls, and the driver's input for them."""
-    state, made, text = history.state, [], [lend('s', history.state)]
+    state, readers, made, text = history.state, list(history.readers), [], [lend('s', history.state)]
+    for which, reader in enumerate(readers):
+        text += [give(which), lend('e', reader)]
     for step in (Step(*words) for words in history.steps):
-        wanted = result(state, step)
-        made.append(Made(history.label, state, step, wanted))
+        letter, slices = FORMS[step.call]
+        reader = readers[step.reader] if 'reader' in slices else None
+        wanted = result(state, reader, step)
+        made.append(Made(history.label, state, step, wanted, reader))
         if step.samples is not None:
             text.append(lend('w', step.samples))
-        text.append(lend(step.call[0], step.other))
+        if step.call in EVENTS:
+            text.append(give(step.reader, *step.numbers))
+        text.append(lend(letter, step.other))
         state = wanted.state
+        if reader is not None:
+            readers[step.reader] = wanted.reader
     return made, text
 
 
+def chosen(made, *slices):
+    """By name, those of state, samples, reader and other that a call is lent."""
+    by_name = dict(zip(('state', 'samples', 'reader', 'other'), slices, strict=True))
+    return {name: by_name[name] for name in FORMS[made.step.call][1]}
+
+
+def lent(made):
+    return chosen(made, made.state, made.step.samples, made.reader, made.step.other)
+
+
 def left(made):
-    """The slices as a call should leave them, by name: a window or a frame stays as it was lent."""
-    slices = {'state': made.wanted.state, 'samples': made.step.samples, 'other': made.wanted.other}
-    return {name: data for name, data in slices.items() if data is not None}
+    """The slices as a call should leave them, by name: a window, a frame or a piece of a file stays as it was lent."""
+    return chosen(made, made.wanted.state, made.step.samples, made.wanted.reader, made.wanted.other)
 
 
 def as_bytes(made):
@@ -93,8 +152,9 @@ def difference(made, got, status):
             at = end
         return f'{answer % 256} at {answer // 256}' + ''.join(lines)
 
-    wanted, lent = as_bytes(made), {'state': made.state, 'samples': made.step.samples, 'other': made.step.other}
-    lines = [f'    {name} {shown(guarded(data))}\n' for name, data in lent.items() if data is not None]
+    wanted = as_bytes(made)
+    lines = [f'    {name} {shown(guarded(data))}\n' for name, data in lent(made).items()]
     found = came(got) if len(got) == len(wanted) else f'no result: the driver ended with status {status}'
-    return (f'DIFFERENCE in {made.step.call} {made.label}\n  lent\n{"".join(lines)}'
+    numbers = ''.join(f' {number}' for number in made.step.numbers)
+    return (f'DIFFERENCE in {made.step.call}{numbers} {made.label}\n  lent\n{"".join(lines)}'
             f'  documents 01 and 02: {came(wanted)}\n  archive: {found}')

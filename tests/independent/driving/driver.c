@@ -5,32 +5,45 @@
 ** lends a new relay and w a new window, or a new frame; p, c and r propose, confirm and read back with the relay as the last call
 ** left it, and d decides on the window as the last call left it, with this slice as the room for the decision. f feeds the frame in
 ** the same way.
-** Output for p, c, r, d and f: what came back (8 bytes, upper first), then the relay, for d and f the window or frame, and the other
-** slice, each with its guards.
+** For event files n gives numbers (8 bytes each, upper first): which reader, then those that a call takes besides; e lends this reader
+** anew. O opens a file, M asks how many bytes are wanted, E ends the file. R reads the slice that w lent as a piece of the file, W
+** writes it as a frame, both with this slice as the room.
+** Output for a call: what came back (8 bytes, upper first), then of relay, window, reader and other slice those that it was lent, each
+** with its guards.
 */
 #include <stdio.h>
 
 #include "gorsepetal.h"
 
-enum { HEAD = 5, LONGEST = 2 * 65536, MOST = 255 + LONGEST + 255 };
+enum { HEAD = 5, LONGEST = 2 * 65536, MOST = 255 + LONGEST + 255, READERS = 4 };
 
 struct lent {
   uint8_t all[MOST];
   size_t guard, length;
 };
-static struct lent state, window, other;
+static struct lent state, window, other, numbers, readers[READERS];
+
+static uint64_t number(size_t at) {
+  uint64_t value = 0;
+  for (size_t i = 0; i < 8; i++) value = 256 * value + numbers.all[numbers.guard + 8 * at + i];
+  return value;
+}
+
+static struct lent *reader(void) { return &readers[number(0) % READERS]; }
+
+static int among(const char *letters, uint8_t letter) {
+  while (*letters && *letters != letter) letters++;
+  return *letters != 0;
+}
 
 /* Where a letter's slice goes; none for a letter that has no meaning. */
 static struct lent *place(uint8_t letter) {
   switch (letter) {
   case 's': return &state;
   case 'w': return &window;
-  case 'p':
-  case 'c':
-  case 'r':
-  case 'd':
-  case 'f': return &other;
-  default: return 0;
+  case 'n': return &numbers;
+  case 'e': return reader();
+  default: return among("pcrdfOMREW", letter) ? &other : 0;
   }
 }
 
@@ -44,11 +57,19 @@ static int take(struct lent *slice, const uint8_t head[HEAD]) {
 
 static uint64_t call(uint8_t letter) {
   uint8_t *relay = state.all + state.guard, *samples = window.all + window.guard, *bytes = other.all + other.guard;
+  uint8_t *file = reader()->all + reader()->guard;
+  size_t file_len = reader()->length;
   switch (letter) {
   case 'p': return gorsepetal_propose(relay, state.length, bytes, other.length);
   case 'c': return gorsepetal_confirm(relay, state.length, bytes, other.length);
   case 'r': return gorsepetal_read_back(relay, state.length, bytes, other.length);
   case 'f': return gorsepetal_feed(relay, state.length, samples, window.length, bytes, other.length);
+  case 'O': return gorsepetal_events_open(file, file_len, number(1), number(2));
+  case 'M': return gorsepetal_events_wanted(file, file_len);
+  case 'R': return gorsepetal_events_read(relay, state.length, file, file_len, samples, window.length, bytes, other.length);
+  case 'E': return gorsepetal_events_end(file, file_len);
+  case 'W':
+    return gorsepetal_events_write(number(1), number(2), (uint32_t)number(3), samples, window.length, bytes, other.length);
   default: return gorsepetal_decide(relay, state.length, samples, window.length, bytes, other.length);
   }
 }
@@ -60,9 +81,10 @@ static int tell(uint8_t letter, uint64_t answer) {
   uint8_t bytes[8];
   for (int i = 0; i < 8; i++) bytes[i] = (uint8_t)(answer >> (56 - 8 * i));
   fwrite(bytes, 1, sizeof bytes, stdout);
-  tell_slice(&state);
-  if (letter == 'd' || letter == 'f') tell_slice(&window);
-  tell_slice(&other);
+  if (among("pcrdfR", letter)) tell_slice(&state);
+  if (among("dfRW", letter)) tell_slice(&window);
+  if (among("OMRE", letter)) tell_slice(reader());
+  if (among("pcrdfRW", letter)) tell_slice(&other);
   return fflush(stdout) == 0;
 }
 

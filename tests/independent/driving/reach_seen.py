@@ -56,7 +56,7 @@ def differing(pending, entry):
 
 def shown(made):
     """Of a call of the archive."""
-    (call, other, _), number = made.step, made.wanted.number
+    (call, other), number = made.step[:2], made.wanted.number
     if number == 17:
         return
     if call == 'propose':
