@@ -27,8 +27,8 @@
 **
 ** Feed and events_read take less than 4 KiB of stack, decide less than 2.5 KiB, every other call
 ** less than 1 KiB. One function of the library calls itself: the root. No other does, not even
-** through another. It is proved that the root's calls lie at most 26 deep in a decide or a feed,
-** and 33 deep for any number. The sizes above have room for 33. How many instructions a call takes
+** through another. It is proved that the root's calls lie at most 26 deep in a decision, and 33
+** deep for any number. The sizes above have room for 33. How many instructions a call takes
 ** depends on the ends of the line and on how large its currents are, and has a bound. The bytes
 ** and the instructions are measured and not proved: docs/BENCHMARKS.md.
 **
