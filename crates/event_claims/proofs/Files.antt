@@ -12,7 +12,8 @@ use Rattle.answers.proofs.Numbers.{zero-is, not-zero-refused}
 use Rattle.lent.specs.Lent.{over}
 use Rattle.lent.specs.Bytes.{Every, Byte}
 use Rattle.lent.proofs.Over.{over-read}
-use Rattle.records.specs.Record.{Shape, narrow, recordLength, numberIn, timeIn, frameIn, recordOf}
+use Rattle.samples.specs.Window.{numbersOf}
+use Rattle.records.specs.Record.{Shape, narrow, recordLength, numberIn, timeIn, frameIn, recordOf, swapped}
 use Rattle.records.specs.Writer.{writeAnswer}
 use Rattle.records.proofs.Made.{made-length, made-number, made-time, made-frame, made-again}
 use Rattle.files.specs.Reader.{Reader, Ended, Reading, endAnswer}
@@ -30,7 +31,7 @@ use Rattle.gorsepetal.specs.EventFiles.{openLeft}
 use Rattle.event_claims.specs.GivenBack.{GoodEnds, GoodFile}
 use Rattle.event_claims.specs.GivenBack as row
 use Rattle.event_claims.specs.Caller.{Told, fed, Lent, readPieces, OfFile, ofFile, lending, opening}
-use Rattle.event_claims.specs.Files.{CutAnywhere, Event, IsEvent, recordsFrom, fileOf, WritesRecord, RefusedWrite, eventsIn, WrittenRead, ReadWritten, fedByHand, relayAfter, AsByHand, FedByHand}
+use Rattle.event_claims.specs.Files.{CutAnywhere, Event, IsEvent, recordsFrom, fileOf, WritesRecord, RefusedWrite, MissingMark, eventsIn, WrittenRead, ReadWritten, fedByHand, relayAfter, AsByHand, FedByHand}
 use Rattle.event_claims.proofs.GivenBack.{file-is, events-write-answers}
 use Rattle.event_claims.proofs.Following.{feeds, seen, Ok, as-seen, still-ok}
 
@@ -206,6 +207,10 @@ read-written s r out ends ps l m g p e =
     ap fileOf (events-are s r out ends 0 l m good ps) ∙ again ends 0 _ (k .0) (rw (k .1) p) ∙ k .1
 
 -- ---- write
+
+pub missing-mark : MissingMark
+unfolding swapped numbersOf
+missing-mark b = refl
 
 pub refused-write : RefusedWrite
 refused-write ends written time f out n out₁ c not-0 = c .buffer ∙ rw (not-zero-refused (writeAnswer ends written f out) (λ z. not-0 (c .given ∙ z)))

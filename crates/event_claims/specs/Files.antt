@@ -5,8 +5,8 @@ use mathlib.Core.List.{List, [], _∷_, _++_}
 use lib.ListN.{length, take}
 use Rattle.answers.specs.Answers.{givenBack}
 use Rattle.lent.specs.Bytes.{Every, Byte}
-use Rattle.samples.specs.Window.{channels}
-use Rattle.records.specs.Record.{narrow, recordLength, recordOf}
+use Rattle.samples.specs.Window.{channels, numbersOf, missingMark}
+use Rattle.records.specs.Record.{swapped, narrow, recordLength, recordOf}
 use Rattle.files.specs.Caller.{together}
 use Rattle.events.specs.Slice.{readerLength}
 use Rattle.gorsepetal.specs.State.{stateLength}
@@ -50,6 +50,10 @@ WritesRecord =
 abbrev pub RefusedWrite : Type 0
 RefusedWrite =
     (ends written time : ℕ) (f out : List ℕ) (n : ℕ) (out₁ : List ℕ) → EventsWritten ends written time f out n out₁ → (n ≡ 0 → ⊥) → out₁ ≡ out
+
+-- "The standard's mark for missing data, 8000 hex, is our -32768": low byte first in a record, among any other channels.
+abbrev pub MissingMark : Type 0
+MissingMark = (b : List ℕ) → numbersOf (swapped (0 ∷ 128 ∷ b)) ≡ missingMark ∷ numbersOf (swapped b)
 
 -- The frames and times that were read.
 abbrev pub eventsIn : List Told → List Event

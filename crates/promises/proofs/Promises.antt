@@ -90,6 +90,7 @@ gorsepetal = record {
   hears-by-events = feeding.hears-by-events;
   zero-means = ending.zero-means;
   writes-record = event-files.writes-record;
+  missing-mark = event-files.missing-mark;
   refusals-end = ending.refusals-end;
   same-refusal = ending.same-refusal;
   feed-does-not-end = ending.feed-does-not-end;

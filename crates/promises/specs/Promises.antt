@@ -29,7 +29,7 @@ use Rattle.files.specs.Cutting.{ReadAsJoined, JoinedAsRead, NoWrap}
 use Rattle.files.specs.Cutting as cutting
 use Rattle.event_claims.specs.One.{OneEventsOpened, OneEventsWanted, OneEventsRead, OneEventsEnded, OneEventsWritten}
 use Rattle.event_claims.specs.GivenBack.{EventsOpenAnswers, EventsReadAnswers, EventsEndAnswers, EventsWriteAnswers}
-use Rattle.event_claims.specs.Files.{CutAnywhere, WritesRecord, RefusedWrite, WrittenRead, ReadWritten, FedByHand}
+use Rattle.event_claims.specs.Files.{CutAnywhere, WritesRecord, RefusedWrite, MissingMark, WrittenRead, ReadWritten, FedByHand}
 use Rattle.event_claims.specs.Ending.{RefusalsEnd, SameRefusal, FeedDoesNotEnd, ZeroMeans, RefusedRead, NoReaderNoChange}
 
 pub record Gorsepetal : Type 1 where
@@ -96,6 +96,7 @@ pub record Gorsepetal : Type 1 where
   pub hears-by-events : HearsByEvents
   pub zero-means : ZeroMeans
   pub writes-record : WritesRecord
+  pub missing-mark : MissingMark
   -- what ends a reading and what does not, and what a refusal leaves
   pub refusals-end : RefusalsEnd
   pub same-refusal : SameRefusal
