@@ -5,13 +5,13 @@ use mathlib.Core.List.{List, [], _∷_, _++_, append-nil, map}
 use native.Mathlib.Omega.{arith}
 use native.Mathlib.Numerals.{add-one}
 use borrow.Author.Tests.{eq-eqb}
-use lib.ListN.{length, take}
+use lib.ListN.{length, take, drop}
 use Rattle.answers.specs.declared.Answer.the-variants as answer
 use Rattle.answers.specs.Answers.{givenBack}
 use Rattle.answers.proofs.Numbers.{zero-is, not-zero-refused}
 use Rattle.lent.specs.Lent.{over}
 use Rattle.lent.specs.Bytes.{Every, Byte}
-use Rattle.lent.proofs.Over.{over-read}
+use Rattle.lent.proofs.Over.{over-read, over-behind}
 use Rattle.samples.specs.Window.{numbersOf}
 use Rattle.records.specs.Record.{Shape, narrow, recordLength, numberIn, timeIn, frameIn, recordOf, swapped}
 use Rattle.records.specs.Writer.{writeAnswer}
@@ -218,7 +218,7 @@ refused-write ends written time f out n out₁ c not-0 = c .buffer ∙ rw (not-z
 pub writes-record : WritesRecord
 writes-record ends written time f out out₁ c = of-row (events-write-answers ends written time f out 0 out₁ c 0 .0 refl) refl
   where
-    of-row : {n : ℕ} → row.WriteRow ends written f out n → n ≡ 0 → take (recordLength (narrow ends 0)) out₁ ≡ recordOf (written + 1) time f
+    of-row : {n : ℕ} → row.WriteRow ends written f out n → n ≡ 0 → let m = recordLength (narrow ends 0) in (take m out₁ ≡ recordOf (written + 1) time f) × (drop m out₁ ≡ drop m out)
     of-row (row.WriteRow.bad-file x) z = absurd (omega arith)
     of-row (row.WriteRow.frame-length g x) z = absurd (omega arith)
     of-row (row.WriteRow.no-room g x y) z = absurd (omega arith)
@@ -227,4 +227,6 @@ writes-record ends written time f out out₁ c = of-row (events-write-answers en
         let done : writeAnswer ends written f out ≡ answer.Done = zero-is (writeAnswer ends written f out) (sym (c .given)) in
         let x : List ℕ = recordOf (written + 1) time f in
         let is : out₁ ≡ over out 0 x = c .buffer ∙ rw done in
-        ap₂ take (sym (made-length ends (written + 1) time f long)) is ∙ over-read out 0 x (omega arith)
+        let size = made-length ends (written + 1) time f long in
+        let end : 0 + length x + 0 ≡ recordLength (narrow ends 0) = omega (arith, size) in
+        (ap₂ take (sym size) is ∙ over-read out 0 x (omega arith), ap (drop (recordLength (narrow ends 0))) is ∙ rw end at (over-behind out 0 x (omega arith) 0))

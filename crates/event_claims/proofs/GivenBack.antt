@@ -12,6 +12,7 @@ use Rattle.answers.specs.Answers.{givenBack}
 use Rattle.answers.proofs.Numbers.{else-false}
 use Rattle.samples.specs.Window.{channels}
 use Rattle.records.specs.Record.{Shape, goodEnds, goodFile, narrow, recordLength, numberIn, frameIn}
+use Rattle.records.specs.Writer.{lastNumber}
 use Rattle.records.proofs.Writing.{good-ends, good-file}
 use Rattle.files.specs.Reader.{Reader, Ended, Reading, Stopped, More, Whole, opened, refusal, wrongNumber, outcome, inHand, endAnswer}
 use Rattle.files.specs.Reader as reader
@@ -85,29 +86,29 @@ events-end-answers r n r₁ c = both _ (c .given) (end-row r (isReader r) (reade
 
 module _ (ends written : ℕ) (f out : List ℕ) where
   write-row :
-      (a b c d : Bool) → goodEnds ends ≡ a → eqb (length f) (2 * channels ends) ≡ b → leb (recordLength (narrow ends 0)) (length out) ≡ c → ltb written 4294967295 ≡ d →
+      (a b c d : Bool) → goodEnds ends ≡ a → eqb (length f) (2 * channels ends) ≡ b → leb (recordLength (narrow ends 0)) (length out) ≡ c → ltb written lastNumber ≡ d →
       WriteRow ends written f out (givenBack (cond a (cond b (cond c (cond d Done (OtherNumber 0)) NoRoom) OtherFrameLength) BadFile))
   write-row false b c d t u v w = row.WriteRow.bad-file (λ g. false≢true (sym t ∙ are-ends ends g))
   write-row true false c d t u v w = row.WriteRow.frame-length (ends-are ends t) (eqb-false _ _ u)
   write-row true true false d t u v w = row.WriteRow.no-room (ends-are ends t) (eqb-true _ _ u) (leb-false _ _ v)
-  write-row true true true false t u v w = row.WriteRow.other-number (ends-are ends t) (eqb-true _ _ u) (leb-true _ _ v) (ltb-false written 4294967295 w)
-  write-row true true true true t u v w = row.WriteRow.done (ends-are ends t) (eqb-true _ _ u) (leb-true _ _ v) (ltb-true written 4294967295 w)
+  write-row true true true false t u v w = row.WriteRow.other-number (ends-are ends t) (eqb-true _ _ u) (leb-true _ _ v) (ltb-false written lastNumber w)
+  write-row true true true true t u v w = row.WriteRow.done (ends-are ends t) (eqb-true _ _ u) (leb-true _ _ v) (ltb-true written lastNumber w)
 
   row-write :
       (m : ℕ) → WriteRow ends written f out m →
-      givenBack (cond (goodEnds ends) (cond (eqb (length f) (2 * channels ends)) (cond (leb (recordLength (narrow ends 0)) (length out)) (cond (ltb written 4294967295) Done (OtherNumber 0)) NoRoom) OtherFrameLength) BadFile) ≡ m
+      givenBack (cond (goodEnds ends) (cond (eqb (length f) (2 * channels ends)) (cond (leb (recordLength (narrow ends 0)) (length out)) (cond (ltb written lastNumber) Done (OtherNumber 0)) NoRoom) OtherFrameLength) BadFile) ≡ m
   row-write m (row.WriteRow.bad-file n) = rw (not-ends ends n)
   row-write m (row.WriteRow.frame-length g l) = rw (are-ends ends g, ne-eqb (length f) (2 * channels ends) l)
   row-write m (row.WriteRow.no-room g l r) = rw (are-ends ends g, eq-eqb (length f) (2 * channels ends) l, lt-leb (recordLength (narrow ends 0)) (length out) r)
   row-write m (row.WriteRow.other-number g l r n) =
-      rw (are-ends ends g, eq-eqb (length f) (2 * channels ends) l, le-leb (recordLength (narrow ends 0)) (length out) r, le-ltb written 4294967295 n)
+      rw (are-ends ends g, eq-eqb (length f) (2 * channels ends) l, le-leb (recordLength (narrow ends 0)) (length out) r, le-ltb written lastNumber n)
   row-write m (row.WriteRow.done g l r n) =
-      rw (are-ends ends g, eq-eqb (length f) (2 * channels ends) l, le-leb (recordLength (narrow ends 0)) (length out) r, lt-ltb written 4294967295 n)
+      rw (are-ends ends g, eq-eqb (length f) (2 * channels ends) l, le-leb (recordLength (narrow ends 0)) (length out) r, lt-ltb written lastNumber n)
 
 pub events-write-answers : EventsWriteAnswers
 events-write-answers ends written time f out n out₁ c =
     both _ (c .given)
-    (write-row ends written f out (goodEnds ends) (eqb (length f) (2 * channels ends)) (leb (recordLength (narrow ends 0)) (length out)) (ltb written 4294967295) refl refl refl refl)
+    (write-row ends written f out (goodEnds ends) (eqb (length f) (2 * channels ends)) (leb (recordLength (narrow ends 0)) (length out)) (ltb written lastNumber) refl refl refl refl)
     (row-write ends written f out)
 
 module _ (s r p out : List ℕ) where

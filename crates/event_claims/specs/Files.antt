@@ -2,7 +2,7 @@
 use Prim.Native.Nat.{ℕ, _+_, _*_, _≤_, _<_}
 use mathlib.Core.Path.{_≡_}
 use mathlib.Core.List.{List, [], _∷_, _++_}
-use lib.ListN.{length, take}
+use lib.ListN.{length, take, drop}
 use Rattle.answers.specs.Answers.{givenBack}
 use Rattle.lent.specs.Bytes.{Every, Byte}
 use Rattle.samples.specs.Window.{channels, numbersOf, missingMark}
@@ -44,7 +44,7 @@ fileOf es = together (recordsFrom 0 es)
 abbrev pub WritesRecord : Type 0
 WritesRecord =
     (ends written time : ℕ) (f out out₁ : List ℕ) → EventsWritten ends written time f out 0 out₁
-    → take (recordLength (narrow ends 0)) out₁ ≡ recordOf (written + 1) time f
+    → let n = recordLength (narrow ends 0) in (take n out₁ ≡ recordOf (written + 1) time f) × (drop n out₁ ≡ drop n out)
 
 -- A refused write writes nothing.
 abbrev pub RefusedWrite : Type 0

@@ -8,6 +8,7 @@ use Rattle.whole.specs.Exactly.{Exactly}
 use Rattle.answers.specs.Answers.{givenBack}
 use Rattle.samples.specs.Window.{channels}
 use Rattle.records.specs.Record.{Shape, narrow, recordLength, numberIn, frameIn}
+use Rattle.records.specs.Writer.{lastNumber}
 use Rattle.files.specs.Reader.{Ending, answerOf, Ended, Reading, inHand}
 use Rattle.events.specs.Slice.{readerLength, readerOf}
 use Rattle.gorsepetal.specs.State.{stateLength}
@@ -62,9 +63,9 @@ pub data WriteRow (ends written : ℕ) (f out : List ℕ) : ℕ → Type 0 where
   frame-length : GoodEnds ends → (length f ≡ 2 * channels ends → ⊥) → WriteRow ends written f out 9
   no-room : GoodEnds ends → length f ≡ 2 * channels ends → length out < recordLength (narrow ends 0) → WriteRow ends written f out 3
   other-number :
-      GoodEnds ends → length f ≡ 2 * channels ends → recordLength (narrow ends 0) ≤ length out → 4294967295 ≤ written → WriteRow ends written f out 12
+      GoodEnds ends → length f ≡ 2 * channels ends → recordLength (narrow ends 0) ≤ length out → lastNumber ≤ written → WriteRow ends written f out 12
   done :
-      GoodEnds ends → length f ≡ 2 * channels ends → recordLength (narrow ends 0) ≤ length out → written < 4294967295 → WriteRow ends written f out 0
+      GoodEnds ends → length f ≡ 2 * channels ends → recordLength (narrow ends 0) ≤ length out → written < lastNumber → WriteRow ends written f out 0
 
 -- A call gives back a number exactly where that number's row holds.
 abbrev pub EventsOpenAnswers : Type 0

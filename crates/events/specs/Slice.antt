@@ -26,6 +26,15 @@ use Rattle.events.specs.declared.Step.the-variants as step
 abbrev pub readerLength : ℕ
 readerLength = 160
 
+abbrev pub endedAt : ℕ
+endedAt = 2
+
+abbrev pub heldAt : ℕ
+heldAt = 3
+
+abbrev pub indexAt : ℕ
+indexAt = 4
+
 abbrev pub timeAt : ℕ
 timeAt = 8
 
@@ -42,13 +51,13 @@ abbrev pub statusIn : List ℕ → ℕ
 statusIn s = getD s 1 0
 
 abbrev pub endedIn : List ℕ → ℕ
-endedIn s = getD s 2 0
+endedIn s = getD s endedAt 0
 
 abbrev pub heldIn : List ℕ → ℕ
-heldIn s = getD s 3 0
+heldIn s = getD s heldAt 0
 
 abbrev pub indexIn : List ℕ → ℕ
-indexIn s = wordAt s 4
+indexIn s = wordAt s indexAt
 
 abbrev pub shapeIn : List ℕ → Shape
 shapeIn s = narrow (endsIn s) (statusIn s)
@@ -85,7 +94,7 @@ wantedIn s = cond (isReader s) (wanted (readerOf s)) 0
 
 -- End: inside a record, byte 2 says so from now on.
 abbrev pub endLeft : List ℕ → List ℕ
-endLeft s = cond (isReading s && not (eqb (heldIn s) 0)) (set s 2 11) s
+endLeft s = cond (isReading s && not (eqb (heldIn s) 0)) (set s endedAt 11) s
 
 pub record AtEnd (s : List ℕ) (a : Answer) (left : List ℕ) : Type 0 where
   pub answer : a ≡ cond (isReader s) (endAnswer (readerOf s)) answer.NoRelay
@@ -98,12 +107,12 @@ frontOf g =
     ∷ getD g 7 0 ∷ getD g 6 0 ∷ getD g 5 0 ∷ getD g 4 0 ∷ []
 
 abbrev pub finished : (ends : ℕ) (g s : List ℕ) → List ℕ
-finished ends g s = over (over s 3 (frontOf g)) frameAt (frameIn ends g)
+finished ends g s = over (over s heldAt (frontOf g)) frameAt (frameIn ends g)
 
 -- By what a piece comes to; s has the piece behind the bytes in hand, which are now so many.
 abbrev pub leftBy : Outcome → (have : ℕ) → List ℕ → List ℕ
-leftBy (Stopped e) have s = set s 2 12
-leftBy More have s = set s 3 have
+leftBy (Stopped e) have s = set s endedAt 12
+leftBy More have s = set s heldAt have
 leftBy (Whole sh g) have s = finished (sh .ends) g s
 
 abbrev pub takenOutcome : (s piece : List ℕ) → Outcome
@@ -138,11 +147,11 @@ wrongIn s have index = leb 4 have && not (eqb (wordAt s handAt) (index + 1))
 -- What the record being read comes to, asked of the slice alone: its length, its index and how many of its bytes are in hand.
 pub record Settled (ends long index have : ℕ) (s : List ℕ) (r : Step) (left : List ℕ) : Type 0 where
   pub step : r ≡ cond (wrongIn s have index) (step.Ended (answer.OtherNumber index)) (cond (ltb have long) step.Taken step.Whole)
-  pub reader : left ≡ cond (wrongIn s have index) (set s 2 12) (cond (ltb have long) (set s 3 have) (finished ends (drop handAt s) s))
+  pub reader : left ≡ cond (wrongIn s have index) (set s endedAt 12) (cond (ltb have long) (set s heldAt have) (finished ends (drop handAt s) s))
 
 -- What the slice shows of the last whole record: its time, 32 bits with the high byte first, and its frame as feed takes it.
 abbrev pub timeShown : List ℕ → ℕ
-timeShown s = getD s 11 0 + 256 * (getD s 10 0 + 256 * (getD s 9 0 + 256 * getD s 8 0))
+timeShown s = getD s (timeAt + 3) 0 + 256 * (getD s (timeAt + 2) 0 + 256 * (getD s (timeAt + 1) 0 + 256 * getD s timeAt 0))
 
 abbrev pub frameShown : List ℕ → List ℕ
 frameShown s = take (2 * channels (endsIn s)) (drop frameAt s)

@@ -6,6 +6,7 @@ use lib.ListN.{length}
 use Rattle.answers.specs.declared.Answer.the-variants as answer
 use Rattle.lent.specs.Bytes.{Every, Byte}
 use Rattle.records.specs.Record.{Shape, recordLength, numberIn}
+use Rattle.records.specs.Writer.{lastNumber}
 use Rattle.files.specs.Reader.{Reader, Ended, Reading, OtherNumber, Fits, wanted, outcome, Stopped, More, Whole, readOutcome}
 use Rattle.files.specs.Caller.{Caller, Hears, starts, hand, together, heardOf, notes, byHand, afterAll}
 
@@ -54,9 +55,9 @@ AsByHand =
     (S I : Type 0) (does : Hears S I) (s : S) (sh : Shape) (ps : List (List ℕ)) →
     let r = Reading sh 0 [] in DoneByHand does sh s (hand does (starts s r) ps) (hand notes (starts tt r) ps)
 
--- "Number past 4294967295": at that index every number is refused, 0 among them; none wraps.
+-- "Sample number not one above the last": above 4294967295 there is none of 32 bits, so at that index each is refused, 0 too; none wraps.
 abbrev pub NoWrap : Type 0
-NoWrap = (sh : Shape) (h : List ℕ) → Every Byte h → 4 ≤ length h → outcome sh 4294967295 h ≡ Stopped (OtherNumber 4294967295)
+NoWrap = (sh : Shape) (h : List ℕ) → Every Byte h → 4 ≤ length h → outcome sh lastNumber h ≡ Stopped (OtherNumber lastNumber)
 
 -- Who lends fewer bytes than wanted knows that no record was finished, and who lends as many knows that one was, or that the reading has ended.
 pub record Knows (r : Reader) (piece : List ℕ) : Type 0 where
