@@ -1,13 +1,12 @@
 -- Balanced faults: all but the bytes themselves is read off what demand 2 tells.
-use Prim.Native.Nat.{ℕ, zero, suc, _≤_, _<_}
-use mathlib.Core.Path.{_≡_, refl, sym, ap, subst, _∙_}
+use Prim.Native.Nat.{ℕ, zero, suc, _≤_}
+use mathlib.Core.Path.{_≡_, refl, ap, subst, _∙_}
 use mathlib.Core.Logic.{_⊎_, inl, inr, ⊎-elim}
-use mathlib.Core.List.{List, _∷_, _++_}
+use mathlib.Core.List.{List}
 use mathlib.Core.Bool.{Bool, true, false, cond, _&&_, _||_}
 use native.Mathlib.Omega.{arith}
 use lib.Dec.{eqb}
 use lib.IntN.{ℤ, pos}
-use lib.ListN.{drop, List·getD-append}
 use Rattle.whole.specs.Bits.{bits}
 use Rattle.whole.specs.Exactly.{Exactly}
 use Rattle.settings.specs.Fields.{reach, secondReach}
@@ -16,13 +15,13 @@ use Rattle.distance.specs.Direction.{reachesPickup}
 use Rattle.distance.specs.Mho.{loopBits}
 use Rattle.distance.proofs.Laws.{no-positive}
 use Rattle.decision.specs.declared.Findings.{Findings}
-use Rattle.decision.specs.Decision.{voltages, currentsOfEnd1, findings, any, isForward, balancedFault, decisionLength, decisionBytes}
+use Rattle.decision.specs.Decision.{voltages, currentsOfEnd1, findings, any, isForward, balancedFault, decisionBytes}
 use Rattle.claims.specs.Bits.{BitsTell, AnyOf, AllOf}
-use Rattle.claims.specs.Decisions.{Decision}
 use Rattle.claims.specs.Demand2.{phaseFacts, sixLoops, phaseLoopFacts, loopFacts, TripsForward, TripsBalanced, byte, Tells}
-use Rattle.claims.specs.Balanced.{BalancedFault, BetweenLimits, NoVoltage, bytesBefore, before, ElseAsBefore}
+use Rattle.claims.specs.Balanced.{BalancedFault, BetweenLimits, NoVoltage, bytesBefore, ElseAsBefore}
 use Rattle.claims.proofs.Bits.{none-told}
 use Rattle.claims.proofs.Decisions.{front}
+use Rattle.claims.proofs.Alike.{byte-is}
 use Rattle.claims.proofs.Demand2.{flag, i2, assert, trips-balanced, not-reached, reads-none, demand-2}
 
 -- ---- the new rule
@@ -75,10 +74,6 @@ no-voltage s w out d c dead =
     )
 
 -- ---- as before
-
--- a decision's bytes are those of what was found
-byte-is : (s : List ℕ) (w : List ℤ) (out d : List ℕ) → Decision s w out d → (k : ℕ) → k < 32 → byte d k ≡ byte (decisionBytes (findings s w)) k
-byte-is s w out d c k l = ap (λ x. byte x k) (front c) ∙ List·getD-append (decisionBytes (findings s w)) (drop decisionLength out) 0 k l
 
 but-0 : (f : Findings) (k : ℕ) → 1 ≤ k → byte (decisionBytes f) k ≡ byte (bytesBefore f) k
 but-0 f zero l = absurd (omega arith)

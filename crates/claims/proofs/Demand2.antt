@@ -1,6 +1,6 @@
 -- Demand 2: each byte of the decision is read off its definition; the bits and the direction tell the rules in document 01's words by the laws
 -- of the layers below.
-use Prim.Native.Nat.{ℕ, zero, suc, _+_, _*_, _/_, _%_, _≤_, _<_}
+use Prim.Native.Nat.{ℕ, zero, suc, _+_, _*_, _/_, _%_, _<_}
 use mathlib.Core.Path.{_≡_, refl, sym, subst, ap, _∙_}
 use mathlib.Core.Logic.{_⊎_, inl, inr, ⊎-elim}
 use mathlib.Core.List.{List, [], _∷_, _++_}
@@ -28,11 +28,12 @@ use Rattle.distance.specs.declared.mho.SixLoops.{SixLoops}
 use Rattle.distance.specs.Mho.{ratioOf, asserts, loopBits}
 use Rattle.distance.specs.Laws.{PickupReached}
 use Rattle.distance.proofs.Laws.{mho-rule, pickup-reached, below-pickup, forward-rule, reverse-rule}
-use Rattle.differential.specs.Differential.{comparison, magnitude, operates, operatingBits}
+use Rattle.differential.specs.Differential.{comparison, magnitude, operates, operatingBits, slopeOfChange}
 use Rattle.differential.proofs.Rule.{operates-rule}
+use Rattle.differential.proofs.SlopeOfChange.{changes, change-at-most-99}
 use Rattle.decision.specs.Decision.{voltages, currentsOfEnd1, findings, isForward, allPhaseLoops, balancedFault, decisionLength, decision}
 use Rattle.gorsepetal.proofs.Good.{in-range}
-use Rattle.claims.specs.Demand2.{phaseCurrents, squareOf, restraintOf, phaseFacts, sixLoops, phaseLoopFacts, loopFacts, DirectionForward, Balanced, TripsBalanced, byte, wordAt, Tells, Demand2}
+use Rattle.claims.specs.Demand2.{phaseCurrents, squareOf, restraintOf, phaseFacts, ChangesAt, sixLoops, phaseLoopFacts, loopFacts, DirectionForward, Balanced, TripsBalanced, byte, wordAt, Tells, Demand2}
 use Rattle.claims.proofs.Decisions.{good, front}
 
 -- ---- 1 or 0, and the trip rule
@@ -77,18 +78,18 @@ number-2 direction.None e = absurd (omega arith)
 number-2 direction.Forward e = absurd (omega arith)
 number-2 direction.Reverse e = refl
 
-one-not-zero : directionNumber direction.Forward ≡ 0 → ⊥
-one-not-zero e = omega arith
-
-two-not-zero : directionNumber direction.Reverse ≡ 0 → ⊥
-two-not-zero e = omega arith
-
 number-0 : (d : Direction) → (d ≡ direction.Forward → ⊥) → (d ≡ direction.Reverse → ⊥) → directionNumber d ≡ 0
 number-0 direction.None f r = refl
 number-0 direction.Forward f r = absurd (f refl)
 number-0 direction.Reverse f r = absurd (r refl)
 
--- ---- words
+-- ---- the three phases, and words
+
+pub for-three : (Fact : ℕ → Type 0) → Fact 0 → Fact 1 → Fact 2 → (p : ℕ) → p < 3 → Fact p
+for-three Fact a b c zero l = a
+for-three Fact a b c (suc zero) l = b
+for-three Fact a b c (suc (suc zero)) l = c
+for-three Fact a b c (suc (suc (suc p))) l = absurd (omega arith)
 
 word-is : (n : ℕ) → ((n / 16777216 * 256 + n / 65536 % 256) * 256 + n / 256 % 256) * 256 + n % 256 ≡ n
 word-is n = omega arith
@@ -153,17 +154,24 @@ module _ (s : List ℕ) (w : List ℤ) where
 
   restraint-word : (rest : List ℕ) (p : ℕ) → p < 3 → wordAt (decision s w ++ rest) (8 + 4 * p) ≡ restraintOf s w p
   unfolding findings
-  restraint-word rest zero l = word-is (restraintOf s w 0)
-  restraint-word rest (suc zero) l = word-is (restraintOf s w 1)
-  restraint-word rest (suc (suc zero)) l = word-is (restraintOf s w 2)
-  restraint-word rest (suc (suc (suc p))) l = absurd (omega arith)
+  restraint-word rest =
+      let u = restraintOf s w in for-three (λ p. wordAt (decision s w ++ rest) (8 + 4 * p) ≡ u p) (word-is (u 0)) (word-is (u 1)) (word-is (u 2))
 
   magnitude-word : (rest : List ℕ) (p : ℕ) → p < 3 → wordAt (decision s w ++ rest) (20 + 4 * p) ≡ floorRoot (4096 * squareOf s w p)
   unfolding findings magnitude
-  magnitude-word rest zero l = word-is (floorRoot (4096 * squareOf s w 0))
-  magnitude-word rest (suc zero) l = word-is (floorRoot (4096 * squareOf s w 1))
-  magnitude-word rest (suc (suc zero)) l = word-is (floorRoot (4096 * squareOf s w 2))
-  magnitude-word rest (suc (suc (suc p))) l = absurd (omega arith)
+  magnitude-word rest =
+      let root : ℕ → ℕ = λ p. floorRoot (4096 * squareOf s w p) in
+      for-three (λ p. wordAt (decision s w ++ rest) (20 + 4 * p) ≡ root p) (word-is (root 0)) (word-is (root 1)) (word-is (root 2))
+
+  -- c of a phase
+  changes-of : (p : ℕ) → ChangesAt s w p (slopeOfChange (pickup s) (comparison (phaseCurrents s w p) (ends s)))
+  changes-of p =
+      let x = comparison (phaseCurrents s w p) (ends s) in
+      (change-at-most-99 _ _ _, λ K least most. let h = changes (pickup s) x .1 K least most in let rule = operates-rule K (pickup s) x in (λ o. h .0 (rule .1 o), λ l. rule .0 (h .1 l)))
+
+  change-bytes : (rest : List ℕ) (p : ℕ) → p < 3 → ChangesAt s w p (byte (decision s w ++ rest) (5 + p))
+  unfolding findings
+  change-bytes rest = for-three (λ p. ChangesAt s w p (byte (decision s w ++ rest) (5 + p))) (changes-of 0) (changes-of 1) (changes-of 2)
 
   abbrev pub i2 : Phasor
   i2 = negativeSequence (currentsOfEnd1 s w)
@@ -192,11 +200,11 @@ module _ (s : List ℕ) (w : List ℤ) where
         six-bits = few-bits (reach s);
         forward = (λ e. forward .0 (number-1 d e), λ f. ap directionNumber (forward .1 f));
         reverse = (λ e. reverse .0 (number-2 d e), λ f. ap directionNumber (reverse .1 f));
-        none = (λ e. (λ f. one-not-zero (sym (ap directionNumber (forward .1 f)) ∙ e), λ r. two-not-zero (sym (ap directionNumber (reverse .1 r)) ∙ e)), λ neither. number-0 d (λ f. neither .0 (forward .0 f)) (λ r. neither .1 (reverse .0 r)));
+        none = (λ e. (λ f. let z : _≡_ {A = ℕ} 1 0 = sym (ap directionNumber (forward .1 f)) ∙ e in omega arith, λ r. let z : _≡_ {A = ℕ} 2 0 = sym (ap directionNumber (reverse .1 r)) ∙ e in omega arith), λ neither. number-0 d (λ f. neither .0 (forward .0 f)) (λ r. neither .1 (reverse .0 r)));
         second-zone-bits = second-tells (eqb (secondReach s) 0) refl;
         second-six-bits = second-few (eqb (secondReach s) 0);
         second-zone-off = λ off. rw off;
-        zero-bytes = (refl, refl, refl);
+        changes = change-bytes rest;
         restraints = restraint-word rest;
         magnitudes = magnitude-word rest;
       }

@@ -1,12 +1,14 @@
 -- Demand 3 about the decision: bit p of byte 1 is whether phase p operates, and of that demand 3 is proved in differential.
-use Prim.Native.Nat.{ℕ, zero, suc, _*_, _≤_, _<_}
+use Prim.Native.Nat.{ℕ, zero, suc, _+_, _*_, _≤_, _<_}
 use mathlib.Core.Path.{_≡_, refl, sym, ap, subst, _∙_}
 use mathlib.Core.Logic.{inl, inr, ⊎-elim}
 use mathlib.Core.Bool.{true}
 use mathlib.Core.List.{List, _++_}
+use native.Mathlib.Nat.{le-refl}
 use native.Mathlib.Omega.{arith}
 use lib.IntN.{ℤ}
 use lib.ListN.{drop, getD}
+use Rattle.whole.specs.Exactly.{Exactly}
 use Rattle.claims.specs.Bits.{isSet, BitsTell, AnyOf}
 use Rattle.whole.specs.Round.{roundBy}
 use Rattle.whole.specs.Root.{floorRoot, rootUp}
@@ -27,25 +29,20 @@ use Rattle.distance.specs.Mho.{residual, kProduct, groundLoop, phaseLoop, loops
 use Rattle.decision.specs.Decision.{rateOf, findings, decisionLength, decision}
 use Rattle.claims.specs.Decisions.{Decision}
 use Rattle.gorsepetal.proofs.Good.{in-range}
-use Rattle.claims.specs.Demand2.{phaseCurrents, squareOf, phaseFacts, loopFacts, Operates, byte}
-use Rattle.claims.specs.Demand3.{sums, Demand3First, Demand3Second, TripHasReason, fault, through, FaultTrips, ThroughDoesNot, ThroughIsQuiet}
+use Rattle.claims.specs.Demand2.{phaseCurrents, squareOf, OperatesAt, Operates, phaseFacts, ChangesAt, loopFacts, byte}
+use Rattle.claims.specs.Demand3.{sums, Demand3First, Demand3Second, Demand3OfChange, TripHasReason, fault, through, FaultTrips, ThroughDoesNot, ThroughIsQuiet}
 use Rattle.claims.proofs.Decisions.{good, front}
-use Rattle.claims.proofs.Demand2.{operating, operate, reads-none, demand-2}
+use Rattle.claims.proofs.Demand2.{for-three, operating, operate, reads-none, demand-2}
 
 -- the bit of a phase in a decision
 bit : (s : List ℕ) (w : List ℤ) (rest : List ℕ) (p : ℕ) → p < 3 → isSet p (byte (decision s w ++ rest) 1) ≡ operating s w p
 unfolding findings operatingBits
-bit s w rest zero l = bit-is (operate s w) 0
-bit s w rest (suc zero) l = bit-is (operate s w) 1
-bit s w rest (suc (suc zero)) l = bit-is (operate s w) 2
-bit s w rest (suc (suc (suc p))) l = absurd (omega arith)
+bit s w rest =
+    let is = bit-is (operate s w) in for-three (λ p. isSet p (byte (decision s w ++ rest) 1) ≡ operating s w p) (is 0) (is 1) (is 2)
 
 -- a phase that operates is one of the three
 among : (s : List ℕ) (w : List ℤ) (p : ℕ) → p < 3 → Operates s w p → AnyOf (phaseFacts s w)
-among s w zero l h = inl h
-among s w (suc zero) l h = inr (inl h)
-among s w (suc (suc zero)) l h = inr (inr (inl h))
-among s w (suc (suc (suc p))) l h = absurd (omega arith)
+among s w = for-three (λ p. Operates s w p → AnyOf (phaseFacts s w)) inl (λ h. inr (inl h)) (λ h. inr (inr (inl h)))
 
 bit-after : (r : List ℕ) (w : List ℤ) (out d : List ℕ) (p : ℕ) → p < 3 → Decision r w out d → isSet p (byte d 1) ≡ operating r w p
 bit-after r w out d p l c = ap (λ x. isSet p (byte x 1)) (front c) ∙ bit r w (drop decisionLength out) p l
@@ -64,6 +61,30 @@ demand-3-second r w out d p l c picked m one above =
     picked m one above in
     let one-of = among r w p l (operates-rule (slope r) (pickup r) (comparison (phaseCurrents r w p) (ends r)) .0 operates) in
     (bit-after r w out d p l c ∙ operates, demand-2 r w out d c .0 .trip .1 (inl one-of))
+
+-- c percent is allowed by the first half, and c + 1 percent is not forced by the second
+module _ (r : List ℕ) (w : List ℤ) (p : ℕ) (some : 1 ≤ ends r) where
+  rule : (K : ℕ) → Exactly (operates K (pickup r) (comparison (phaseCurrents r w p) (ends r)) ≡ true) (OperatesAt r w p K)
+  rule K = operates-rule K (pickup r) (comparison (phaseCurrents r w p) (ends r))
+
+  allowed : (n : ℕ) → ChangesAt r w p n → NotBelow band n (ends r) (sums r w p)
+  allowed zero h = λ m one. omega arith
+  allowed (suc n) h =
+      let top : suc n ≤ 100 = omega (arith, h .0) in
+      first-at-any-rate (rateOf r) tt refl w (ends r) p (suc n) (pickup r) top some (rule (suc n) .1 (h .1 (suc n) (omega arith) top .1 (le-refl (suc n))))
+
+  not-forced :
+      (n : ℕ) → ChangesAt r w p n → pickup r * pickup r ≤ squareOf r w p → (m : ℕ) → 1 ≤ m → Above band (n + 1) (ends r) (sums r w p) m → ⊥
+  not-forced n h picked m one above =
+      let top : n + 1 ≤ 100 = omega (arith, h .0) in
+      let past = second-at-any-rate (rateOf r) tt refl w (ends r) p (n + 1) (pickup r) top some picked m one above in
+      omega (arith, h .1 (n + 1) (omega arith) top .0 (rule (n + 1) .0 past))
+
+pub demand-3-of-change : Demand3OfChange
+demand-3-of-change r w out d p l c =
+    let told = demand-2 r w out d c .0 .changes p l in
+    let some : 1 ≤ ends r = omega (arith, in-range r (good c) .ends-range .least) in
+    (allowed r w p some (byte d (5 + p)) told, not-forced r w p some (byte d (5 + p)) told)
 
 -- ---- a trip has its reason
 

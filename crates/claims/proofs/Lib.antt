@@ -11,8 +11,10 @@ pub mod Settings
 pub mod Feeding
 pub mod Decisions
 pub mod Demand2
+pub mod Alike
 pub mod SecondZone
 pub mod Balanced
+pub mod Change
 pub mod Demand3
 pub mod WhichRule
 pub mod HandChecks

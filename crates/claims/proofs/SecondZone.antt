@@ -1,22 +1,21 @@
 -- The second zone has what the first has, since its reach is not below; all that a decision says but byte 4 is read from the other bytes of
 -- the record; and a second reach of zero is two spare bytes.
-use Prim.Native.Nat.{ℕ, zero, suc, _+_}
+use Prim.Native.Nat.{ℕ, zero, suc}
 use mathlib.Core.Path.{_≡_, refl, sym, ap, _∙_}
 use mathlib.Core.Logic.{⊎-elim}
 use mathlib.Core.List.{List, [], _∷_, _++_}
 use mathlib.Core.Bool.{Bool, true, false, cond, false≢true}
 use native.Mathlib.Omega.{arith}
 use borrow.Author.Needs.{needs}
-use borrow.Author.Tests.{ne-eqb, leb-true}
-use lib.Dec.{leb}
+use borrow.Author.Tests.{ne-eqb}
 use lib.IntN.{ℤ, pos}
 use lib.ListN.{getD, drop}
+use lib.Seq.{getD-set-other}
 use lib.Signed.{_≤ℤ_}
 use Rattle.whole.specs.Bits.{bits}
 use Rattle.whole.proofs.Order.{le-ℤ}
 use Rattle.settings.specs.declared.Checked.the-variants.{Bad}
-use Rattle.settings.specs.Record.{fieldAt}
-use Rattle.settings.specs.Table.{Rule, Byte, offsetOf, differentialRows, distanceRows, angleRows, directionRows, tailRows, spareRows, settingsTable}
+use Rattle.settings.specs.Table.{Rule, Byte, offsetOf, secondReachRow, differentialRows, distanceRows, angleRows, directionRows, tailRows, spareRows, settingsTable}
 use Rattle.settings.specs.Check.{holds, checkedBy, checked}
 use Rattle.settings.specs.Fields.{Keeps, reach, secondReach}
 use Rattle.settings.proofs.Good.{all-kept}
@@ -29,9 +28,11 @@ use Rattle.decision.specs.Decision.{findings, decisionLength, decisionBytes}
 use Rattle.gorsepetal.proofs.Good.{in-range}
 use Rattle.claims.specs.Bits.{isSet}
 use Rattle.claims.specs.Demand2.{byte}
-use Rattle.claims.specs.SecondZone.{SameElsewhere, SecondZoneHasFirst, OtherBytesStay, tableBefore, RecordsFromBefore}
+use Rattle.claims.specs.Alike.{SameBut}
+use Rattle.claims.specs.SecondZone.{SecondZoneHasFirst, OtherBytesStay, tableBefore, RecordsFromBefore}
 use Rattle.claims.proofs.Bits.{bit-is}
 use Rattle.claims.proofs.Decisions.{good, front}
+use Rattle.claims.proofs.Alike.{same-field}
 use Rattle.claims.proofs.Demand2.{assert, second}
 
 -- ---- the second zone has what the first has
@@ -65,28 +66,17 @@ second-zone-has-first s w out d c on k t =
 
 -- what was found, with nothing in the second zone
 abbrev unlit : Findings → Findings
-unlit f = record { operating = f .operating; asserting = f .asserting; overreaching = 0; unbalanced = f .unbalanced; direction = f .direction; comparisons = f .comparisons }
+unlit f = record { operating = f .operating; asserting = f .asserting; overreaching = 0; unbalanced = f .unbalanced; direction = f .direction; changes = f .changes; comparisons = f .comparisons }
 
 but-4 : (f : Findings) (rest : List ℕ) (k : ℕ) → (k ≡ 4 → ⊥) → getD (decisionBytes f ++ rest) k 0 ≡ getD (decisionBytes (unlit f) ++ rest) k 0
-but-4 f rest zero n = refl
-but-4 f rest (suc zero) n = refl
-but-4 f rest (suc (suc zero)) n = refl
-but-4 f rest (suc (suc (suc zero))) n = refl
-but-4 f rest (suc (suc (suc (suc zero)))) n = absurd (n refl)
-but-4 f rest (suc (suc (suc (suc (suc k))))) n = refl
+but-4 f rest k n = sym (getD-set-other (decisionBytes f ++ rest) 4 k 0 0 n)
 
--- every other field is the same in both records
-module _ (s t : List ℕ) (h : SameElsewhere s t) where
-  same-field : (at : ℕ) → leb (at + 2) 26 ≡ true → fieldAt s at ≡ fieldAt t at
-  same-field at l =
-      let before = leb-true (at + 2) 26 l in
-      rw (h at (λ e. omega arith) (λ e. omega arith), h (at + 1) (λ e. omega arith) (λ e. omega arith))
-
-  same-findings : (w : List ℤ) → unlit (findings s w) ≡ unlit (findings t w)
-  unfolding findings directionOf reachesPickup
-  same-findings w =
-      rw (same-field 0 refl, same-field 2 refl, same-field 4 refl, same-field 6 refl, same-field 8 refl, same-field 10 refl)
-      (rw (same-field 12 refl, same-field 14 refl, same-field 16 refl, same-field 18 refl, same-field 20 refl, same-field 22 refl, same-field 24 refl))
+same-findings : (s t : List ℕ) → SameBut secondReachRow s t → (w : List ℤ) → unlit (findings s w) ≡ unlit (findings t w)
+unfolding findings directionOf reachesPickup
+same-findings s t h w =
+    let same = same-field secondReachRow s t h in
+    rw (same 0 refl, same 2 refl, same 4 refl, same 6 refl, same 8 refl, same 10 refl)
+    (rw (same 12 refl, same 14 refl, same 16 refl, same 18 refl, same 20 refl, same 22 refl, same 24 refl))
 
 pub other-bytes-stay : OtherBytesStay
 other-bytes-stay s t w out d e h c b k n =

@@ -9,12 +9,12 @@ use Rattle.phasors.specs.Grid.{total}
 use Rattle.distance.specs.Sequence.{turned, sequence}
 use Rattle.distance.specs.Direction.{reachesPickup, torque, sideOf, directionOf}
 use Rattle.distance.specs.Mho.{residual, kProduct, groundLoop, phaseLoop, loopsOf, mho, asserts, loopBits}
-use Rattle.differential.specs.Differential.{square, endRestraint, restraint, operates, operatingBits}
+use Rattle.differential.specs.Differential.{square, endRestraint, restraint, operates, operatingBits, countedUp}
 use Rattle.decision.specs.Decision.{findings}
 use Rattle.claims.specs.Worked.{WorkedDecisions}
 
 pub worked-decisions : WorkedDecisions
 unfolding
-    findings operatingBits operates square restraint endRestraint rootUp floorRoot sumOf total plus minus times scaled dot squaredMagnitude rounded roundBy minusJ
+    findings operatingBits countedUp operates square restraint endRestraint rootUp floorRoot sumOf total plus minus times scaled dot squaredMagnitude rounded roundBy minusJ
     phasorOf sumTo withSample sequence turned residual kProduct groundLoop phaseLoop loopsOf loopBits asserts mho reachesPickup torque sideOf directionOf
 worked-decisions = refl

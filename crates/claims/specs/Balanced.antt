@@ -3,19 +3,18 @@
 use Prim.Native.Nat.{ℕ, _≤_, _<_}
 use mathlib.Core.Path.{_≡_}
 use mathlib.Core.Logic.{_⊎_}
-use mathlib.Core.List.{List, _∷_, _++_}
+use mathlib.Core.List.{List}
 use mathlib.Core.Bool.{cond, _&&_, _||_}
 use lib.IntN.{ℤ}
 use Rattle.whole.specs.Exactly.{Exactly}
 use Rattle.plane.specs.Plane.{zero}
 use Rattle.settings.specs.Fields.{reach}
 use Rattle.distance.specs.Sequence.{positiveSequence, negativeSequence}
-use Rattle.distance.specs.Direction.{directionNumber}
 use Rattle.distance.specs.Laws.{PickupReached}
-use Rattle.differential.specs.Differential.{magnitude}
 use Rattle.decision.specs.declared.Findings.{Findings}
-use Rattle.decision.specs.Decision.{voltages, currentsOfEnd1, findings, any, isForward, word}
+use Rattle.decision.specs.Decision.{voltages, currentsOfEnd1, findings, any, isForward}
 use Rattle.claims.specs.Bits.{AnyOf, AllOf}
+use Rattle.claims.specs.Alike.{recordWith}
 use Rattle.claims.specs.Decisions.{Decision}
 use Rattle.claims.specs.Demand2.{phaseFacts, phaseLoopFacts, Balanced, byte}
 
@@ -44,11 +43,7 @@ NoVoltage =
 
 -- The decision as it was: "1 if any phase operates, or direction is forward and any loop asserts; else 0", and the other bytes.
 abbrev pub bytesBefore : Findings → List ℕ
-bytesBefore f =
-    cond (any (f .operating) || (isForward (f .direction) && any (f .asserting))) 1 0
-    ∷ f .operating ∷ f .asserting ∷ directionNumber (f .direction) ∷ f .overreaching ∷ 0 ∷ 0 ∷ 0
-    ∷ word (f .comparisons .a .restraint) ++ word (f .comparisons .b .restraint) ++ word (f .comparisons .c .restraint)
-    ++ word (magnitude (f .comparisons .a)) ++ word (magnitude (f .comparisons .b)) ++ word (magnitude (f .comparisons .c))
+bytesBefore f = recordWith (cond (any (f .operating) || (isForward (f .direction) && any (f .asserting))) 1 0) (f .changes) f
 
 abbrev pub before : List ℕ → List ℤ → ℕ → ℕ
 before s w k = byte (bytesBefore (findings s w)) k

@@ -1,7 +1,7 @@
--- Demand 2 (document 01, "Decision record"; document 02, CR 2, "All demands cover both zones", and CR 4, "The trip line in the decision
--- table is amended"): every quantity in a decision equals its definition. In all definitions s is the settings record in force, w the
--- window's numbers, d what the buffer holds after the call, and phases a, b, c are 0, 1, 2.
-use Prim.Native.Nat.{ℕ, _+_, _*_, _<_}
+-- Demand 2 (document 01, "Decision record"; document 02, CR 2, "All demands cover both zones", CR 4, "The trip line in the decision
+-- table is amended", and CR 6): every quantity in a decision equals its definition. In all definitions s is the settings record in force, w
+-- the window's numbers, d what the buffer holds after the call, and phases a, b, c are 0, 1, 2.
+use Prim.Native.Nat.{ℕ, _+_, _*_, _≤_, _<_}
 use mathlib.Core.Path.{_≡_}
 use mathlib.Core.Logic.{_⊎_}
 use mathlib.Core.List.{List, [], _∷_}
@@ -20,7 +20,7 @@ use Rattle.distance.specs.declared.mho.SixLoops.{SixLoops}
 use Rattle.distance.specs.Mho.{ratioOf}
 use Rattle.distance.specs.Laws.{WithinReach, PickupReached, BelowPickup, BelowForward, AboveReverse}
 use Rattle.differential.specs.Differential.{square, restraint, comparison}
-use Rattle.differential.specs.Laws.{OperatesBy}
+use Rattle.differential.specs.Laws.{OperatesBy, ExactlyUpTo}
 use Rattle.decision.specs.Decision.{decisionLength, rateOf, voltages, currentsOfEnd1, loopsAt}
 use Rattle.claims.specs.Decisions.{Decision}
 
@@ -37,12 +37,20 @@ squareOf s w p = square (phaseCurrents s w p) (ends s)
 abbrev pub restraintOf : List ℕ → List ℤ → ℕ → ℕ
 restraintOf s w p = restraint (phaseCurrents s w p) (ends s)
 
--- "The phase operates exactly when s >= pickup² and 40960000 s > (K U)²."
+-- "The phase operates exactly when s >= pickup² and 40960000 s > (K U)²", at a slope K, with all else as in the record
+abbrev pub OperatesAt : List ℕ → List ℤ → ℕ → ℕ → Type 0
+OperatesAt s w p K = OperatesBy K (pickup s) (comparison (phaseCurrents s w p) (ends s))
+
+-- at its own
 abbrev pub Operates : List ℕ → List ℤ → ℕ → Type 0
-Operates s w p = OperatesBy (slope s) (pickup s) (comparison (phaseCurrents s w p) (ends s))
+Operates s w p = OperatesAt s w p (slope s)
 
 abbrev pub phaseFacts : List ℕ → List ℤ → List (Type 0)
 phaseFacts s w = Operates s w 0 ∷ Operates s w 1 ∷ Operates s w 2 ∷ []
+
+-- "a number c from 0 to 99 ..: with all else equal the phase operates exactly for slopes 1 to c" (document 02, CR 6)
+abbrev pub ChangesAt : List ℕ → List ℤ → ℕ → ℕ → Type 0
+ChangesAt s w p c = (c ≤ 99) × ExactlyUpTo c (OperatesAt s w p)
 
 -- "the loop asserts exactly when m > 0 and 1000000 n <= r m", at the reach r
 abbrev pub Asserts : List ℕ → ℕ → Loop → Type 0
@@ -111,8 +119,8 @@ pub record Tells (s : List ℕ) (w : List ℤ) (d : List ℕ) : Type 0 where
   pub second-zone-bits : (secondReach s ≡ 0 → ⊥) → BitsTell (byte d 4) 0 (loopFacts s w (secondReach s))
   pub second-six-bits : byte d 4 < 64
   pub second-zone-off : secondReach s ≡ 0 → byte d 4 ≡ 0
-  -- 5 to 7 zero
-  pub zero-bytes : (byte d 5 ≡ 0) × (byte d 6 ≡ 0) × (byte d 7 ≡ 0)
+  -- 5 to 7: c of a, b, c
+  pub changes : (p : ℕ) → p < 3 → ChangesAt s w p (byte d (5 + p))
   -- 8 to 19: "U of a, b, c"
   pub restraints : (p : ℕ) → p < 3 → wordAt d (8 + 4 * p) ≡ restraintOf s w p
   -- 20 to 31: "floor of the root of 4096 s, for a, b, c"

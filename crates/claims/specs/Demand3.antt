@@ -1,6 +1,6 @@
 -- Demand 3 (document 01, "Percentage differential") about the decision itself: bit p of its byte 1, for every window that was accepted, with
 -- N, K and the pickup of the record r in force. x gives "the unrounded sums A and B" of each end in the phase.
-use Prim.Native.Nat.{ℕ, _*_, _≤_, _<_}
+use Prim.Native.Nat.{ℕ, _+_, _*_, _≤_, _<_}
 use mathlib.Core.Path.{_≡_}
 use mathlib.Core.Bool.{true}
 use mathlib.Core.Logic.{_⊎_}
@@ -34,6 +34,14 @@ Demand3Second =
     (r : List ℕ) (w : List ℤ) (out d : List ℕ) (p : ℕ) → p < 3 → Decision r w out d
     → pickup r * pickup r ≤ squareOf r w p → (m : ℕ) → 1 ≤ m → Above band (slope r) (ends r) (sums r w p) m
     → (isSet p (byte d 1) ≡ true) × (byte d 0 ≡ 1)
+
+-- What the two say of c (document 02, CR 6): the exact currents are not below c percent, less the band; and where the pickup is reached they
+-- are not above c + 1 percent by more than the band.
+abbrev pub Demand3OfChange : Type 0
+Demand3OfChange =
+    (r : List ℕ) (w : List ℤ) (out d : List ℕ) (p : ℕ) → p < 3 → Decision r w out d
+    → NotBelow band (byte d (5 + p)) (ends r) (sums r w p)
+    × (pickup r * pickup r ≤ squareOf r w p → (m : ℕ) → 1 ≤ m → Above band (byte d (5 + p) + 1) (ends r) (sums r w p) m → ⊥)
 
 -- So a trip has its reason: a phase whose bit is set, which the first half allows; or a fault ahead in which a loop asserts; or a balanced
 -- fault, which has no direction, in which AB, BC and CA assert (document 02, CR 4).

@@ -9,8 +9,10 @@ pub mod Feeding
 pub mod Bits
 pub mod Decisions
 pub mod Demand2
+pub mod Alike
 pub mod SecondZone
 pub mod Balanced
+pub mod Change
 pub mod Demand3
 pub mod WhichRule
 pub mod HandChecks

@@ -8,10 +8,11 @@ use lib.IntN.{ℤ}
 use lib.ListN.{getD}
 use Rattle.whole.specs.Exactly.{Exactly}
 use Rattle.settings.specs.declared.Checked.the-variants.{Good}
-use Rattle.settings.specs.Table.{Rule, Byte, differentialRows, distanceRows, angleRows, directionRows, spareRows}
+use Rattle.settings.specs.Table.{Rule, Byte, secondReachRow, differentialRows, distanceRows, angleRows, directionRows, spareRows}
 use Rattle.settings.specs.Check.{checkedBy, checked}
 use Rattle.settings.specs.Fields.{secondReach}
 use Rattle.claims.specs.Bits.{isSet}
+use Rattle.claims.specs.Alike.{SameBut}
 use Rattle.claims.specs.Decisions.{Decision}
 use Rattle.claims.specs.Demand2.{byte}
 
@@ -21,14 +22,10 @@ SecondZoneHasFirst =
     (s : List ℕ) (w : List ℤ) (out d : List ℕ) → Decision s w out d → (secondReach s ≡ 0 → ⊥)
     → (k : ℕ) → isSet k (byte d 2) ≡ true → isSet k (byte d 4) ≡ true
 
--- Two records that have the same bytes, but for the second reach.
-abbrev pub SameElsewhere : List ℕ → List ℕ → Type 0
-SameElsewhere s t = (k : ℕ) → (k ≡ 26 → ⊥) → (k ≡ 27 → ⊥) → getD s k 0 ≡ getD t k 0
-
--- "It does not trip": by two such records every byte of the decision on a window is the same, but byte 4.
+-- "It does not trip": by two records that differ in the second reach alone every byte of the decision on a window is the same, but byte 4.
 abbrev pub OtherBytesStay : Type 0
 OtherBytesStay =
-    (s t : List ℕ) (w : List ℤ) (out d e : List ℕ) → SameElsewhere s t → Decision s w out d → Decision t w out e
+    (s t : List ℕ) (w : List ℤ) (out d e : List ℕ) → SameBut secondReachRow s t → Decision s w out d → Decision t w out e
     → (k : ℕ) → (k ≡ 4 → ⊥) → byte d k ≡ byte e k
 
 -- The table before: bytes 26 to 31 all spare.

@@ -1,7 +1,7 @@
--- Whole decisions, from the samples to bytes 0 to 4: the paper mill's fault at both slopes, a fault on each of the six loops, one behind
--- the relay, three beyond the first zone, and balanced faults (document 02, CR 4). In all but the mill's what flows in at end 1 flows out at
--- end 2. docs/HAND-CHECKS.md works the mill's, the AG and the first of the balanced faults out; the other loops' faults are like these, turned
--- by a third.
+-- Whole decisions, from the samples to bytes 0 to 7: the paper mill's fault at both slopes, a fault on each of the six loops, one behind
+-- the relay, three beyond the first zone, balanced faults (document 02, CR 4), and faults at the slope at which they change (CR 6). In the
+-- loops' and the balanced faults what flows in at end 1 flows out at end 2. docs/HAND-CHECKS.md works the mill's, the AG and the first of the
+-- balanced faults out; the other loops' faults are like these, turned by a third.
 use Prim.Native.Nat.{ℕ, _+_}
 use mathlib.Core.Path.{_≡_}
 use mathlib.Core.List.{List, [], _∷_, _++_, map}
@@ -22,25 +22,29 @@ pub record Worked : Type 0 where
   pub settings : List ℕ
   -- Va, Vb, Vc, then Ia, Ib, Ic of end 1 and of end 2
   pub phasors : List Complex
-  -- trip, phases, loops, direction, and the loops in the second zone
+  -- trip, phases, loops, direction, the loops in the second zone, and c of a, b, c
   pub bytes : List ℕ
 
 abbrev pub none : Complex
 none = (pos 0, pos 0)
 
--- 100 counts in and 40 out, pickup 60, at a slope
-abbrev pub mill : ℕ → List ℕ → Worked
-mill K bytes =
+-- the currents of both ends and no voltage, at a pickup and a slope
+abbrev pub currents : List Complex → ℕ → ℕ → List ℕ → Worked
+currents i pickup K bytes =
     record {
-      settings = changed (changed exampleRecord (offsetOf pickupRow) 60) (offsetOf slopeRow) K;
-      phasors = none ∷ none ∷ none ∷ (pos 100, pos 0) ∷ none ∷ none ∷ (negated 40, pos 0) ∷ none ∷ none ∷ [];
+      settings = changed (changed exampleRecord (offsetOf pickupRow) pickup) (offsetOf slopeRow) K;
+      phasors = none ∷ none ∷ none ∷ i;
       bytes = bytes;
     }
 
--- the voltages, and the currents of end 1, which flow out at end 2
+-- 100 counts in and 40 out, pickup 60, at a slope
+abbrev pub mill : ℕ → List ℕ → Worked
+mill = currents ((pos 100, pos 0) ∷ none ∷ none ∷ (negated 40, pos 0) ∷ none ∷ none ∷ []) 60
+
+-- the voltages, and the currents of end 1, which flow out at end 2: no phase operates at any slope
 abbrev pub through : List Complex → List Complex → List ℕ → Worked
 through v i bytes =
-    record { settings = exampleRecord; phasors = v ++ i ++ map (λ p. (negated 1 *ℤ p .0, negated 1 *ℤ p .1)) i; bytes = bytes }
+    record { settings = exampleRecord; phasors = v ++ i ++ map (λ p. (negated 1 *ℤ p .0, negated 1 *ℤ p .1)) i; bytes = bytes ++ 0 ∷ 0 ∷ 0 ∷ [] }
 
 -- AG ahead, and farther away than the first reach
 abbrev pub farther : List ℕ → Worked
@@ -68,8 +72,8 @@ at v bytes = through v ((pos 0, negated 1000) ∷ (negated 866, pos 500) ∷ (po
 abbrev pub directed : List Worked
 directed =
     -- the paper mill: slope 15, and 50
-    mill 15 (1 ∷ 1 ∷ 0 ∷ 0 ∷ 0 ∷ [])
-    ∷ mill 50 (0 ∷ 0 ∷ 0 ∷ 0 ∷ 0 ∷ [])
+    mill 15 (1 ∷ 1 ∷ 0 ∷ 0 ∷ 0 ∷ 42 ∷ 0 ∷ 0 ∷ [])
+    ∷ mill 50 (0 ∷ 0 ∷ 0 ∷ 0 ∷ 0 ∷ 42 ∷ 0 ∷ 0 ∷ [])
     -- AG, ahead and behind
     ∷ through ((pos 1000, pos 0) ∷ (negated 1000, negated 1732) ∷ (negated 1000, pos 1732) ∷ []) ((pos 0, negated 1000) ∷ none ∷ none ∷ []) (1 ∷ 0 ∷ 1 ∷ 1 ∷ 0 ∷ [])
     ∷ through ((pos 1000, pos 0) ∷ (negated 1000, negated 1732) ∷ (negated 1000, pos 1732) ∷ []) ((pos 0, pos 1000) ∷ none ∷ none ∷ []) (0 ∷ 0 ∷ 0 ∷ 2 ∷ 0 ∷ [])
@@ -118,9 +122,35 @@ balanced =
     ∷ at (none ∷ none ∷ none ∷ []) (0 ∷ 0 ∷ 0 ∷ 0 ∷ 0 ∷ [])
     ∷ []
 
+-- hand check P10 in phase b, equal at 50; and P11 in phase c
+abbrev pub p10 : ℕ → ℕ → List ℕ → Worked
+p10 = currents (none ∷ (pos 90, pos 0) ∷ none ∷ none ∷ (negated 30, pos 0) ∷ none ∷ [])
+
+abbrev pub p11 : ℕ → ℕ → List ℕ → Worked
+p11 = currents (none ∷ none ∷ (pos 1, pos 1) ∷ none ∷ none ∷ (pos 1, pos 1) ∷ [])
+
+abbrev pub changing : List Worked
+changing =
+    -- the paper mill on both sides of its change
+    mill 42 (1 ∷ 1 ∷ 0 ∷ 0 ∷ 0 ∷ 42 ∷ 0 ∷ 0 ∷ [])
+    ∷ mill 43 (0 ∷ 0 ∷ 0 ∷ 0 ∷ 0 ∷ 42 ∷ 0 ∷ 0 ∷ [])
+    -- equal does not operate
+    ∷ p10 1 49 (1 ∷ 2 ∷ 0 ∷ 0 ∷ 0 ∷ 0 ∷ 49 ∷ 0 ∷ [])
+    ∷ p10 1 50 (0 ∷ 0 ∷ 0 ∷ 0 ∷ 0 ∷ 0 ∷ 49 ∷ 0 ∷ [])
+    -- the pickup is not reached
+    ∷ p10 61 15 (0 ∷ 0 ∷ 0 ∷ 0 ∷ 0 ∷ 0 ∷ 0 ∷ 0 ∷ [])
+    -- the most there is, at both of its slopes and with two pickups
+    ∷ p11 1 99 (1 ∷ 4 ∷ 0 ∷ 0 ∷ 0 ∷ 0 ∷ 0 ∷ 99 ∷ [])
+    ∷ p11 1 100 (0 ∷ 0 ∷ 0 ∷ 0 ∷ 0 ∷ 0 ∷ 0 ∷ 99 ∷ [])
+    ∷ p11 2 1 (1 ∷ 4 ∷ 0 ∷ 0 ∷ 0 ∷ 0 ∷ 0 ∷ 99 ∷ [])
+    ∷ p11 3 1 (0 ∷ 0 ∷ 0 ∷ 0 ∷ 0 ∷ 0 ∷ 0 ∷ 0 ∷ [])
+    -- all three at once, at a slope between them
+    ∷ currents ((pos 100, pos 0) ∷ (pos 90, pos 0) ∷ (pos 1, pos 1) ∷ (negated 40, pos 0) ∷ (negated 30, pos 0) ∷ (pos 1, pos 1) ∷ []) 1 45 (1 ∷ 6 ∷ 0 ∷ 0 ∷ 0 ∷ 42 ∷ 49 ∷ 99 ∷ [])
+    ∷ []
+
 -- One claim over all of them.
 abbrev pub worked : List Worked
-worked = directed ++ balanced
+worked = directed ++ balanced ++ changing
 
 abbrev pub WorkedDecisions : Type 0
-WorkedDecisions = map (λ x. take 5 (decision (x .settings) (windowOf (x .phasors)))) worked ≡ map (λ x. x .bytes) worked
+WorkedDecisions = map (λ x. take 8 (decision (x .settings) (windowOf (x .phasors)))) worked ≡ map (λ x. x .bytes) worked

@@ -17,7 +17,7 @@ use Rattle.distance.specs.Direction.{reachesPickup, directionOf, directionNumbe
 use Rattle.distance.specs.declared.mho.SixLoops.{SixLoops}
 use Rattle.distance.specs.Mho.{loopsOf, loopBits}
 use Rattle.differential.specs.declared.Comparisons.{Comparisons}
-use Rattle.differential.specs.Differential.{comparisons, magnitude, operatingBits}
+use Rattle.differential.specs.Differential.{comparisons, magnitude, operatingBits, slopesOfChange}
 use Rattle.decision.specs.declared.Findings.{Findings}
 
 -- ---- what is found in a window
@@ -66,6 +66,7 @@ findings s w =
       overreaching = overreachingBits s (loopsAt s (voltages s w) (currentsOfEnd1 s w));
       unbalanced = unbalancedAt s (currentsOfEnd1 s w);
       direction = directionAt s (voltages s w) (currentsOfEnd1 s w);
+      changes = slopesOfChange (pickup s) (comparisonsOf s w);
       comparisons = comparisonsOf s w;
     }
 
@@ -104,12 +105,12 @@ decisionLength = 32
 abbrev pub word : ℕ → List ℕ
 word n = n / 16777216 ∷ n / 65536 % 256 ∷ n / 256 % 256 ∷ n % 256 ∷ []
 
--- bytes 0 to 3; "Decision byte 4 becomes its six loop bits" (document 02, CR 2), 5 to 7 zero; "U of a, b, c", and "floor of the root of
--- 4096 s, for a, b, c"
+-- bytes 0 to 3; "Decision byte 4 becomes its six loop bits" (document 02, CR 2); c of each phase "in decision bytes 5, 6 and 7" (CR 6); "U of
+-- a, b, c", and "floor of the root of 4096 s, for a, b, c"
 abbrev pub decisionBytes : Findings → List ℕ
 decisionBytes f =
     trip (f .operating) (f .asserting) (f .direction) (f .unbalanced) ∷ f .operating ∷ f .asserting ∷ directionNumber (f .direction)
-    ∷ f .overreaching ∷ 0 ∷ 0 ∷ 0
+    ∷ f .overreaching ∷ f .changes .a ∷ f .changes .b ∷ f .changes .c
     ∷ word (f .comparisons .a .restraint) ++ word (f .comparisons .b .restraint) ++ word (f .comparisons .c .restraint)
     ++ word (magnitude (f .comparisons .a)) ++ word (magnitude (f .comparisons .b)) ++ word (magnitude (f .comparisons .c))
 

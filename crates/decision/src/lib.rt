@@ -13,6 +13,7 @@ ghost use Rattle.decision.specs.Decide.{Decided};
 ghost use Rattle.decision.specs.Decision.{loopsAt, assertingBits, overreachingBits, unbalancedAt, directionAt, findings, balancedFault, trip, word, decisionBytes, decision};
 use answers::Answer;
 use differential::Comparisons;
+use differential::change::Changes;
 use distance::direction::Bearing;
 use distance::direction::Direction;
 use distance::mho::ZoneBits;
@@ -39,6 +40,8 @@ pub struct Findings {
     pub unbalanced: bool,
     // which way the fault lies
     pub direction: Direction,
+    // the slope at which each phase changes (document 02, CR 6)
+    pub changes: Changes,
     // what is compared in each phase
     pub comparisons: Comparisons,
 }
@@ -88,6 +91,7 @@ fn findings_in(s: &[u8], window: &[i16]) -> Findings
     let i = phasors::local(grid);
     let comparisons = differential::of_phases(grid, ends);
     let operating = differential::operating_bits(s, comparisons);
+    let changes = differential::change::slopes_of_change(s, comparisons);
     let zones = zones(s, v, i);
     let asserting = zones.first;
     let overreaching = zones.second;
@@ -100,6 +104,7 @@ fn findings_in(s: &[u8], window: &[i16]) -> Findings
         overreaching,
         unbalanced,
         direction,
+        changes,
         comparisons,
     }
 }
@@ -141,9 +146,16 @@ fn word(n: u64) -> [u8; 4]
     ]
 }
 
-// A decision record with its first five bytes, and zeros.
-fn front(trip: u8, operating: u8, asserting: u8, direction: u8, overreaching: u8) -> [u8; LENGTH]
-    ensures { λ r. ⌜ r ≡ trip ∷ operating ∷ asserting ∷ direction ∷ overreaching ∷ replicate 27 0 ⌝ }
+// A decision record with its first eight bytes, and zeros.
+fn front(
+    trip: u8,
+    operating: u8,
+    asserting: u8,
+    direction: u8,
+    overreaching: u8,
+    changes: Changes,
+) -> [u8; LENGTH]
+    ensures { λ r. ⌜ r ≡ trip ∷ operating ∷ asserting ∷ direction ∷ overreaching ∷ changes .a ∷ changes .b ∷ changes .c ∷ replicate 24 0 ⌝ }
 {
     let mut r = [0u8; LENGTH];
     r[0] = trip;
@@ -151,6 +163,9 @@ fn front(trip: u8, operating: u8, asserting: u8, direction: u8, overreaching: u8
     r[2] = asserting;
     r[3] = direction;
     r[4] = overreaching;
+    r[5] = changes.a;
+    r[6] = changes.b;
+    r[7] = changes.c;
     r
 }
 
@@ -178,6 +193,7 @@ fn bytes(f: Findings) -> [u8; LENGTH]
         f.asserting,
         distance::direction::number(direction),
         f.overreaching,
+        f.changes,
     );
     let r = with_word(r, 8, comparisons.a.restraint);
     let r = with_word(r, 12, comparisons.b.restraint);

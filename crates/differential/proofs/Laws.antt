@@ -24,7 +24,7 @@ use Rattle.differential.specs.Laws.{SmallerSlope, NoneAt100, NeverTooSma
 use Rattle.differential.proofs.Rule.{operates-rule}
 use Rattle.differential.proofs.OneEnd.{end-long}
 
-unless : (b : Bool) → (b ≡ true → ⊥) → b ≡ false
+pub unless : (b : Bool) → (b ≡ true → ⊥) → b ≡ false
 unless true f = absurd (f refl)
 unless false f = refl
 

@@ -8,4 +8,5 @@ pub mod Demand3
 pub mod Bands
 pub mod Used
 pub mod Laws
+pub mod SlopeOfChange
 pub mod PaperMill

@@ -1,8 +1,9 @@
--- Document 01, "Percentage differential" (source documents 000 and 003): what is compared in a phase, and when it operates. In these
--- definitions i gives the phasor of each end in the phase, the ends counted from 0, and n is N, how many there are.
-use Prim.Native.Nat.{ℕ, _*_}
+-- Document 01, "Percentage differential" (source documents 000 and 003): what is compared in a phase, and when it operates; and document 02,
+-- CR 6, the slope at which that changes. In these definitions i gives the phasor of each end in the phase, the ends counted from 0, and n is
+-- N, how many there are.
+use Prim.Native.Nat.{ℕ, zero, suc, _*_}
 use mathlib.Core.List.{[], _∷_}
-use mathlib.Core.Bool.{Bool, _&&_}
+use mathlib.Core.Bool.{Bool, cond, _&&_}
 use lib.Dec.{leb, ltb}
 use Rattle.whole.specs.Root.{floorRoot, rootUp}
 use Rattle.whole.specs.Sum.{sumOf}
@@ -10,6 +11,8 @@ use Rattle.whole.specs.Bits.{bits}
 use Rattle.plane.specs.declared.Phasor.{Phasor}
 use Rattle.plane.specs.Plane.{squaredMagnitude}
 use Rattle.phasors.specs.Grid.{total}
+use Rattle.settings.specs.Table.{mostSlope}
+use Rattle.differential.specs.declared.change.Changes.{Changes}
 use Rattle.differential.specs.declared.Comparison.{Comparison}
 use Rattle.differential.specs.declared.Comparisons.{Comparisons}
 
@@ -48,3 +51,18 @@ operates K pickup x = leb (pickup * pickup) (x .square) && ltb (K * x .restraint
 -- "phases a=1, b=2, c=4"
 unfoldable pub operatingBits : ℕ → ℕ → Comparisons → ℕ
 operatingBits K pickup x = bits (operates K pickup (x .a) ∷ operates K pickup (x .b) ∷ operates K pickup (x .c) ∷ [])
+
+-- ---- the slope at which it changes (document 02, CR 6)
+
+-- counted up from the slope K, for as long as the phase operates at the next one: n slopes at most
+unfoldable pub countedUp : ℕ → ℕ → ℕ → Comparison → ℕ
+countedUp zero K pickup x = K
+countedUp (suc n) K pickup x = cond (operates (suc K) pickup x) (countedUp n (suc K) pickup x) K
+
+-- c: "with all else equal the phase operates exactly for slopes 1 to c"; counted up from 0, through the slopes that a record can have
+abbrev pub slopeOfChange : ℕ → Comparison → ℕ
+slopeOfChange pickup x = countedUp mostSlope 0 pickup x
+
+-- of each phase
+abbrev pub slopesOfChange : ℕ → Comparisons → Changes
+slopesOfChange pickup x = record { a = slopeOfChange pickup (x .a); b = slopeOfChange pickup (x .b); c = slopeOfChange pickup (x .c) }

@@ -12,8 +12,9 @@ use Rattle.plane.specs.declared.Phasor.{Phasor}
 use Rattle.plane.specs.Plane.{squaredMagnitude}
 use Rattle.phasors.specs.Rate.{Rate}
 use Rattle.phasors.specs.Grid.{current}
+use Rattle.settings.specs.Table.{mostSlope}
 use Rattle.differential.specs.declared.Comparison.{Comparison}
-use Rattle.differential.specs.Differential.{restraint, comparison, operates}
+use Rattle.differential.specs.Differential.{restraint, comparison, operates, slopeOfChange}
 
 -- "s >= pickup² and 40960000 s > (K U)²"
 abbrev pub OperatesBy : ℕ → ℕ → Comparison → Type 0
@@ -41,3 +42,25 @@ abbrev pub ZeroWindow : Type 0
 ZeroWindow =
     (rate : Rate) → 0 < rate .divisor → (w : List ℤ) (ends p K pickup : ℕ) → ((k : ℕ) → getD w k (pos 0) ≡ pos 0) →
     operates K pickup (comparison (current rate w ends p) ends) ≡ false
+
+-- ---- the slope at which it changes (document 02, CR 6)
+
+-- A fact holds "exactly for slopes 1 to c", of the slopes that a record can have.
+abbrev pub ExactlyUpTo : ℕ → (ℕ → Type 0) → Type 0
+ExactlyUpTo c Fact = (K : ℕ) → 1 ≤ K → K ≤ mostSlope → Exactly (Fact K) (K ≤ c)
+
+-- "with all else equal the phase operates exactly for slopes 1 to c"
+abbrev pub ChangesAt : ℕ → Comparison → ℕ → Type 0
+ChangesAt pickup x c = (c ≤ mostSlope) × ExactlyUpTo c (λ K. operates K pickup x ≡ true)
+
+-- One number is such a c, and no other: the one that is defined.
+abbrev pub OneSlopeOfChange : Type 0
+OneSlopeOfChange = (pickup c : ℕ) (x : Comparison) → Exactly (ChangesAt pickup x c) (c ≡ slopeOfChange pickup x)
+
+-- "from 0 to 99": at slope 100 no phase operates.
+abbrev pub ChangeAtMost99 : Type 0
+ChangeAtMost99 = (i : ℕ → Phasor) (n pickup : ℕ) → slopeOfChange pickup (comparison i n) ≤ 99
+
+-- It is 0 where the pickup is not reached.
+abbrev pub ChangeBelowPickup : Type 0
+ChangeBelowPickup = (pickup : ℕ) (x : Comparison) → x .square < pickup * pickup → slopeOfChange pickup x ≡ 0

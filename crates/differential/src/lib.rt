@@ -1,5 +1,7 @@
 // Percentage differential (source documents 000 and 003): per phase, what flows into the line and is not let out again, against all that
 // flows, and whether that is enough to operate.
+pub mod change; // the slope at which a phase changes
+
 ghost use mathlib.Core.Path.{_≡_};
 ghost use Prim.Native.Nat.{_<_, _≤_};
 ghost use Rattle.plane.specs.Sizes.{Inside, phasorSize};

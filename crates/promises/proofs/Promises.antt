@@ -10,6 +10,7 @@ use Rattle.claims.proofs.Demand1 as demand-1
 use Rattle.claims.proofs.Demand2 as demand-2
 use Rattle.claims.proofs.SecondZone as second-zone
 use Rattle.claims.proofs.Balanced as balanced
+use Rattle.claims.proofs.Change as change
 use Rattle.claims.proofs.Demand3 as demand-3
 use Rattle.claims.proofs.WhichRule as which-rule
 use Rattle.claims.proofs.Settings as settings
@@ -17,6 +18,7 @@ use Rattle.claims.proofs.WrongRelays as wrong-relays
 use Rattle.settings.proofs.Examples as examples
 use Rattle.distance.proofs.Laws as distance
 use Rattle.differential.proofs.Laws as differential
+use Rattle.differential.proofs.SlopeOfChange as slope-of-change
 use Rattle.claims.proofs.HandChecks as hand-checks
 use Rattle.differential.proofs.PaperMill as paper-mill
 use Rattle.differential.proofs.Used as used
@@ -109,8 +111,13 @@ gorsepetal = record {
   between-limits = balanced.between-limits;
   no-voltage = balanced.no-voltage;
   else-as-before = balanced.else-as-before;
+  one-change = change.one-change;
+  same-story = change.same-story;
+  how-far-off = change.how-far-off;
+  change-moves-three = change.change-moves-three;
   demand-3-first = demand-3.demand-3-first;
   demand-3-second = demand-3.demand-3-second;
+  demand-3-of-change = demand-3.demand-3-of-change;
   trip-has-reason = demand-3.trip-has-reason;
   fault-trips = demand-3.fault-trips;
   through-does-not = demand-3.through-does-not;
@@ -156,6 +163,9 @@ gorsepetal = record {
   none-at-100 = differential.none-at-100;
   never-too-small = differential.never-too-small;
   zero-window = differential.zero-window;
+  one-slope-of-change = slope-of-change.one-slope-of-change;
+  change-at-most-99 = slope-of-change.change-at-most-99;
+  change-below-pickup = slope-of-change.change-below-pickup;
   hand-checks = hand-checks.hand-checks;
   worked-decisions = worked.worked-decisions;
   paper-mill = paper-mill.paper-mill;

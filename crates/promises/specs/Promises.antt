@@ -3,7 +3,7 @@
 -- are proved in `report`.
 use Rattle.settings.specs.Examples.{AsFound, ByOffset}
 use Rattle.distance.specs.Laws.{MhoRule, LargerReach, NoPolarising, NoPositive, NoneBelowPickup, NeverBoth, ForwardRule, ReverseRule}
-use Rattle.differential.specs.Laws.{OperatesRule, SmallerSlope, NoneAt100, NeverTooSmall, ZeroWindow}
+use Rattle.differential.specs.Laws.{OperatesRule, SmallerSlope, NoneAt100, NeverTooSmall, ZeroWindow, OneSlopeOfChange, ChangeAtMost99, ChangeBelowPickup}
 use Rattle.differential.specs.Named.{NamedWindow, OneCountIsFalse, BandIsUsed}
 use Rattle.differential.specs.PaperMill.{PaperMill}
 use Rattle.gorsepetal.specs.Calls.{Proposed, Confirmed, ReadBack}
@@ -19,7 +19,8 @@ use Rattle.claims.specs.Feeding.{FirmwareHears, HearsByEvents, HearsOverHistori
 use Rattle.claims.specs.Demand2.{Demand2}
 use Rattle.claims.specs.SecondZone.{SecondZoneHasFirst, OtherBytesStay, RecordsFromBefore}
 use Rattle.claims.specs.Balanced.{BalancedFault, BetweenLimits, NoVoltage, ElseAsBefore}
-use Rattle.claims.specs.Demand3.{Demand3First, Demand3Second, TripHasReason, FaultTrips, ThroughDoesNot, ThroughIsQuiet}
+use Rattle.claims.specs.Change.{OneChange, SameStory, HowFarOff, ChangeMovesThree}
+use Rattle.claims.specs.Demand3.{Demand3First, Demand3Second, Demand3OfChange, TripHasReason, FaultTrips, ThroughDoesNot, ThroughIsQuiet}
 use Rattle.claims.specs.WhichRule.{WhichRule, WhichRuleOverHistories, WhichRuleByFeeding, WhichRuleByEvents, WhichRecord, WhichRecordOverHistories, SaidTwiceReadsBack, SaidTwiceDecides, SaidTwiceDecidesByFeeding}
 use Rattle.claims.specs.HandChecks.{HandChecks}
 use Rattle.claims.specs.Worked.{WorkedDecisions}
@@ -120,9 +121,15 @@ pub record Gorsepetal : Type 1 where
   pub between-limits : BetweenLimits
   pub no-voltage : NoVoltage
   pub else-as-before : ElseAsBefore
+  -- the slope at which it changes: "how far off can the slope be?"; and what it does not move
+  pub one-change : OneChange
+  pub same-story : SameStory
+  pub how-far-off : HowFarOff
+  pub change-moves-three : ChangeMovesThree
   -- demand 3: how far rounding can move the decision
   pub demand-3-first : Demand3First
   pub demand-3-second : Demand3Second
+  pub demand-3-of-change : Demand3OfChange
   pub trip-has-reason : TripHasReason
   pub fault-trips : FaultTrips
   pub through-does-not : ThroughDoesNot
@@ -173,6 +180,9 @@ pub record Gorsepetal : Type 1 where
   pub none-at-100 : NoneAt100
   pub never-too-small : NeverTooSmall
   pub zero-window : ZeroWindow
+  pub one-slope-of-change : OneSlopeOfChange
+  pub change-at-most-99 : ChangeAtMost99
+  pub change-below-pickup : ChangeBelowPickup
   -- the hand checks, and examples worked out
   pub hand-checks : HandChecks
   pub worked-decisions : WorkedDecisions

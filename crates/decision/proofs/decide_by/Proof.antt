@@ -20,5 +20,5 @@ decide-by-spec =
     tie.close
     (tie.spec
     (λ c κs. search) (λ c. search decide-2) (λ c. search decide-3) (λ c κs. search _∙_)
-    (λ c. search) cast-t11 (λ c. search) (λ c κs. search _∙_) (λ c. search)
+    (λ c. search) cast-t11 (λ c. search) (λ c κs. search _∙_) (λ c. search needs)
     (λ c κs. search needs) (λ c. search decide-4) (λ c. search) (λ c. search decide-0))

@@ -9,7 +9,7 @@ use denote.Ref.{now}
 use lib.IntN.{ℤ}
 use Rattle.phasors.specs.Grid.{voltagesOf, localCurrents, current}
 use Rattle.phasors.proofs.Totals.{filled-local}
-use Rattle.differential.specs.Differential.{comparisons, operatingBits}
+use Rattle.differential.specs.Differential.{comparisons, operatingBits, slopesOfChange}
 use Rattle.differential.proofs.Filled.{filled-comparisons}
 use Rattle.decision.specs.Decision.{rateOf, loopsAt, assertingBits, overreachingBits, unbalancedAt, directionAt, findings}
 use Rattle.decision.proofs.findings_in.Statement.{statement}
@@ -21,7 +21,7 @@ some c = omega (arith, c .ends .ensures, c .before .before .pre .0 .ends-range .
 
 zones-requires : tie.Need-zones-requires
 zones-requires c κs =
-    let l = c .before .before in
+    let l = c .before .before .before in
     let n = l .before .before .before in
     let grid = l .before .currents .ensures in
     (n .before .before .pre .0, l .before .before .voltages .ensures .1, rw (l .local .ensures) (filled-local (grid .0) (grid .1) (some n) .1))
@@ -30,7 +30,8 @@ returns : tie.Need-returns
 unfolding findings
 returns c =
     let z = c .before in
-    let b = z .before in
+    let d = z .before in
+    let b = d .before in
     let o = b .before in
     let l = o .before in
     let g = l .before in
@@ -44,12 +45,13 @@ returns c =
     let currents = l .local .ensures ∙ filled-local filled (g .currents .ensures .1) (some n) .0 ∙ ap (localCurrents (rateOf s) w) ends in
     let compared = o .of-phases .ensures .0 ∙ filled-comparisons filled ∙ ap (λ k. comparisons (current (rateOf s) w k) k) ends in
     let phases = b .operating-bits .ensures ∙ ap (operatingBits _ _) compared in
+    let changes = d .slopes-of-change .ensures ∙ ap (slopesOfChange _) compared in
     let loops = ap₂ (loopsAt s) voltages currents in
     let near = z .zones .ensures .0 ∙ ap (assertingBits s) loops in
     let further = z .zones .ensures .1 ∙ ap (overreachingBits s) loops in
     let unbalanced = c .bearing .ensures .0 ∙ ap (unbalancedAt s) currents in
     let direction = c .bearing .ensures .1 ∙ ap₂ (directionAt s) voltages currents in (
-      λ k. record { operating = phases k; asserting = near k; overreaching = further k; unbalanced = unbalanced k; direction = direction k; comparisons = compared k },
+      λ k. record { operating = phases k; asserting = near k; overreaching = further k; unbalanced = unbalanced k; direction = direction k; changes = changes k; comparisons = compared k },
       o .of-phases .ensures .1,
     )
 
@@ -58,4 +60,4 @@ findings-in-spec =
     tie.close
     (tie.spec
     (λ c κs. search) (λ c κs. search needs) (λ c κs. search needs) (λ c κs. search) (λ c κs. (omega arith, search))
-    (λ c κs. search) zones-requires (λ c κs. zones-requires (c .before) κs) returns)
+    (λ c κs. search) (λ c κs. search) zones-requires (λ c κs. zones-requires (c .before) κs) returns)

@@ -1,0 +1,79 @@
+-- The slope at which it changes: all but the bytes themselves is read off what demand 2 tells.
+use Prim.Native.Nat.{ℕ, zero, suc, _+_, _≤_, _<_}
+use mathlib.Core.Path.{_≡_, refl, sym, ap, _∙_}
+use mathlib.Core.Logic.{_⊎_, ⊎-elim}
+use mathlib.Core.List.{List, _++_}
+use mathlib.Core.Bool.{true}
+use native.Mathlib.Omega.{arith}
+use lib.IntN.{ℤ}
+use lib.ListN.{getD, set, drop}
+use lib.Seq.{getD-set-other}
+use Rattle.whole.specs.Exactly.{Exactly}
+use Rattle.settings.specs.Table.{slopeRow}
+use Rattle.settings.specs.Fields.{slope}
+use Rattle.distance.specs.Direction.{reachesPickup, directionOf}
+use Rattle.differential.proofs.SlopeOfChange.{only-one}
+use Rattle.decision.specs.declared.Findings.{Findings}
+use Rattle.decision.specs.Decision.{findings, decisionLength, decisionBytes}
+use Rattle.gorsepetal.proofs.Good.{in-range}
+use Rattle.claims.specs.Bits.{isSet}
+use Rattle.claims.specs.Alike.{SameBut}
+use Rattle.claims.specs.Demand2.{OperatesAt, Operates, byte, Tells}
+use Rattle.claims.specs.Change.{OneChange, SameStory, HowFarOff, bytesBefore, ChangeMovesThree}
+use Rattle.claims.proofs.Decisions.{good, front}
+use Rattle.claims.proofs.Alike.{same-field, byte-is}
+use Rattle.claims.proofs.Demand2.{for-three, demand-2}
+
+pub one-change : OneChange
+one-change s w out d c p l n =
+    let told = demand-2 s w out d c .0 .changes p l in
+    (λ h. only-one (OperatesAt s w p) n (byte d (5 + p)) (omega (arith, h .0)) (omega (arith, told .0)) (h .1) (told .1), λ e. rw e told)
+
+-- the bit of a phase
+phase-told : (s : List ℕ) (w : List ℤ) (d : List ℕ) → Tells s w d → (p : ℕ) → p < 3 → Exactly (isSet p (byte d 1) ≡ true) (Operates s w p)
+phase-told s w d told = for-three (λ p. Exactly (isSet p (byte d 1) ≡ true) (Operates s w p)) (told .phase-bits .0) (told .phase-bits .1 .0) (told .phase-bits .1 .1 .0)
+
+pub same-story : SameStory
+same-story s w out d c p l =
+    let told = demand-2 s w out d c .0 in
+    let range = in-range s (good c) .slope-range in
+    let bit = phase-told s w d told p l in
+    let change = told .changes p l .1 (slope s) (range .least) (range .most) in
+    (λ t. change .0 (bit .0 t), λ m. bit .1 (change .1 m))
+
+-- ---- two slopes
+
+-- what was found, with no phase that operates
+abbrev unsloped : Findings → Findings
+unsloped f = record { operating = 0; asserting = f .asserting; overreaching = f .overreaching; unbalanced = f .unbalanced; direction = f .direction; changes = f .changes; comparisons = f .comparisons }
+
+from-2 : (f : Findings) (rest : List ℕ) (k : ℕ) → 2 ≤ k → getD (decisionBytes f ++ rest) k 0 ≡ getD (decisionBytes (unsloped f) ++ rest) k 0
+from-2 f rest zero l = absurd (omega arith)
+from-2 f rest (suc zero) l = absurd (omega arith)
+from-2 f rest (suc (suc k)) l = refl
+
+same-findings : (s t : List ℕ) → SameBut slopeRow s t → (w : List ℤ) → unsloped (findings s w) ≡ unsloped (findings t w)
+unfolding findings directionOf reachesPickup
+same-findings s t h w =
+    let same = same-field slopeRow s t h in
+    rw (same 0 refl, same 4 refl, same 6 refl, same 8 refl, same 10 refl, same 12 refl, same 14 refl)
+    (rw (same 16 refl, same 18 refl, same 20 refl, same 22 refl, same 24 refl, same 26 refl))
+
+pub how-far-off : HowFarOff
+how-far-off s t w out d e h c b =
+    let rest = drop decisionLength out in
+    let alike : (k : ℕ) → 2 ≤ k → byte d k ≡ byte e k = λ k l.
+    ap (λ x. byte x k) (front c) ∙ from-2 (findings s w) rest k l ∙ ap (λ f. getD (decisionBytes f ++ rest) k 0) (same-findings s t h w)
+    ∙ sym (from-2 (findings t w) rest k l) ∙ sym (ap (λ x. byte x k) (front b)) in
+    (λ p l. rw (alike (5 + p) (omega arith)) (same-story t w out e b p l), alike)
+
+-- ---- as before
+
+but-three : (f : Findings) (k : ℕ) → (k < 5) ⊎ (8 ≤ k) → byte (decisionBytes f) k ≡ byte (bytesBefore f) k
+but-three f k h =
+    let b = decisionBytes f in
+    let other : (j : ℕ) → 5 ≤ j → j ≤ 7 → k ≡ j → ⊥ = λ j least most e. ⊎-elim (λ l. omega arith) (λ m. omega arith) h in
+    sym (getD-set-other (set (set b 5 0) 6 0) 7 k 0 0 (other 7 (omega arith) (omega arith)) ∙ getD-set-other (set b 5 0) 6 k 0 0 (other 6 (omega arith) (omega arith)) ∙ getD-set-other b 5 k 0 0 (other 5 (omega arith) (omega arith)))
+
+pub change-moves-three : ChangeMovesThree
+change-moves-three s w out d c k l h = byte-is s w out d c k l ∙ but-three (findings s w) k h
