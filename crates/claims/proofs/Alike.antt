@@ -10,7 +10,8 @@ use lib.IntN.{ℤ}
 use lib.ListN.{drop, List·getD-append}
 use Rattle.settings.specs.Record.{fieldAt}
 use Rattle.settings.specs.Table.{Rule, offsetOf}
-use Rattle.decision.specs.Decision.{findings, decisionLength, decisionBytes}
+use Rattle.findings.specs.DecisionRecord.{decisionBytes}
+use Rattle.decision.specs.Decision.{findings, decisionLength}
 use Rattle.claims.specs.Alike.{SameBut}
 use Rattle.claims.specs.Decisions.{Decision}
 use Rattle.claims.specs.Demand2.{byte}

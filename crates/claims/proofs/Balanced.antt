@@ -14,8 +14,9 @@ use Rattle.distance.specs.Constants.{replica, compensation}
 use Rattle.distance.specs.Direction.{reachesPickup}
 use Rattle.distance.specs.Mho.{loopBits}
 use Rattle.distance.proofs.Laws.{no-positive}
-use Rattle.decision.specs.declared.Findings.{Findings}
-use Rattle.decision.specs.Decision.{voltages, currentsOfEnd1, findings, any, isForward, balancedFault, decisionBytes}
+use Rattle.findings.specs.declared.Findings.{Findings}
+use Rattle.findings.specs.DecisionRecord.{any, isForward, balancedFault, decisionBytes}
+use Rattle.decision.specs.Decision.{voltages, currentsOfEnd1, findings}
 use Rattle.claims.specs.Bits.{BitsTell, AnyOf, AllOf}
 use Rattle.claims.specs.Demand2.{phaseFacts, sixLoops, phaseLoopFacts, loopFacts, TripsForward, TripsBalanced, byte, Tells}
 use Rattle.claims.specs.Balanced.{BalancedFault, BetweenLimits, NoVoltage, bytesBefore, ElseAsBefore}

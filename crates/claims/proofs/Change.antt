@@ -13,8 +13,9 @@ use Rattle.settings.specs.Table.{slopeRow}
 use Rattle.settings.specs.Fields.{slope}
 use Rattle.distance.specs.Direction.{reachesPickup, directionOf}
 use Rattle.differential.proofs.SlopeOfChange.{only-one}
-use Rattle.decision.specs.declared.Findings.{Findings}
-use Rattle.decision.specs.Decision.{findings, decisionLength, decisionBytes}
+use Rattle.findings.specs.declared.Findings.{Findings}
+use Rattle.findings.specs.DecisionRecord.{decisionBytes}
+use Rattle.decision.specs.Decision.{findings, decisionLength}
 use Rattle.gorsepetal.proofs.Good.{in-range}
 use Rattle.claims.specs.Bits.{isSet}
 use Rattle.claims.specs.Alike.{SameBut}

@@ -31,7 +31,8 @@ use Rattle.distance.proofs.Laws.{mho-rule, pickup-reached, below-pickup, forwar
 use Rattle.differential.specs.Differential.{comparison, magnitude, operates, operatingBits, slopeOfChange}
 use Rattle.differential.proofs.Rule.{operates-rule}
 use Rattle.differential.proofs.SlopeOfChange.{changes, change-at-most-99}
-use Rattle.decision.specs.Decision.{voltages, currentsOfEnd1, findings, isForward, allPhaseLoops, balancedFault, decisionLength, decision}
+use Rattle.findings.specs.DecisionRecord.{isForward, allPhaseLoops, balancedFault}
+use Rattle.decision.specs.Decision.{voltages, currentsOfEnd1, findings, decisionLength, decision}
 use Rattle.gorsepetal.proofs.Good.{in-range}
 use Rattle.claims.specs.Demand2.{phaseCurrents, squareOf, restraintOf, phaseFacts, ChangesAt, sixLoops, phaseLoopFacts, loopFacts, DirectionForward, Balanced, TripsBalanced, byte, wordAt, Tells, Demand2}
 use Rattle.claims.proofs.Decisions.{good, front}

@@ -23,8 +23,9 @@ use Rattle.distance.specs.declared.mho.Ratio.{Ratio}
 use Rattle.distance.specs.Direction.{reachesPickup, directionOf}
 use Rattle.distance.specs.Mho.{asserts, loopBits}
 use Rattle.distance.proofs.Laws.{larger-reach}
-use Rattle.decision.specs.declared.Findings.{Findings}
-use Rattle.decision.specs.Decision.{findings, decisionLength, decisionBytes}
+use Rattle.findings.specs.declared.Findings.{Findings}
+use Rattle.findings.specs.DecisionRecord.{decisionBytes}
+use Rattle.decision.specs.Decision.{findings, decisionLength}
 use Rattle.gorsepetal.proofs.Good.{in-range}
 use Rattle.claims.specs.Bits.{isSet}
 use Rattle.claims.specs.Demand2.{byte}

@@ -8,8 +8,8 @@ use Rattle.settings.specs.Table.{Rule, offsetOf}
 use Rattle.distance.specs.Direction.{directionNumber}
 use Rattle.differential.specs.declared.change.Changes.{Changes}
 use Rattle.differential.specs.Differential.{magnitude}
-use Rattle.decision.specs.declared.Findings.{Findings}
-use Rattle.decision.specs.Decision.{word}
+use Rattle.findings.specs.declared.Findings.{Findings}
+use Rattle.findings.specs.DecisionRecord.{word}
 
 -- Two records that have the same bytes, but for the field of a row.
 abbrev pub SameBut : Rule → List ℕ → List ℕ → Type 0

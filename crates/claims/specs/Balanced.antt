@@ -11,8 +11,9 @@ use Rattle.plane.specs.Plane.{zero}
 use Rattle.settings.specs.Fields.{reach}
 use Rattle.distance.specs.Sequence.{positiveSequence, negativeSequence}
 use Rattle.distance.specs.Laws.{PickupReached}
-use Rattle.decision.specs.declared.Findings.{Findings}
-use Rattle.decision.specs.Decision.{voltages, currentsOfEnd1, findings, any, isForward}
+use Rattle.findings.specs.declared.Findings.{Findings}
+use Rattle.findings.specs.DecisionRecord.{any, isForward}
+use Rattle.decision.specs.Decision.{voltages, currentsOfEnd1, findings}
 use Rattle.claims.specs.Bits.{AnyOf, AllOf}
 use Rattle.claims.specs.Alike.{recordWith}
 use Rattle.claims.specs.Decisions.{Decision}

@@ -10,8 +10,9 @@ use Rattle.whole.specs.Exactly.{Exactly}
 use Rattle.settings.specs.Table.{slopeRow}
 use Rattle.settings.specs.Fields.{slope}
 use Rattle.differential.specs.declared.change.Changes.{Changes}
-use Rattle.decision.specs.declared.Findings.{Findings}
-use Rattle.decision.specs.Decision.{findings, trip}
+use Rattle.findings.specs.declared.Findings.{Findings}
+use Rattle.findings.specs.DecisionRecord.{trip}
+use Rattle.decision.specs.Decision.{findings}
 use Rattle.claims.specs.Bits.{isSet}
 use Rattle.claims.specs.Alike.{SameBut, recordWith}
 use Rattle.claims.specs.Decisions.{Decision}

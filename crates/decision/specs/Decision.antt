@@ -1,8 +1,8 @@
--- Document 01, "Decision record": what is found in a window, the trip rule, and the 32 bytes. In these definitions s is a settings record
--- and w a window's numbers.
-use Prim.Native.Nat.{ℕ, _/_, _%_}
-use mathlib.Core.List.{List, [], _∷_, _++_}
-use mathlib.Core.Bool.{Bool, true, false, not, cond, _&&_, _||_}
+-- Document 01, "Decision record": what is found in a window by a settings record, and so the decision on it. In these definitions s is a
+-- settings record and w a window's numbers.
+use Prim.Native.Nat.{ℕ}
+use mathlib.Core.List.{List}
+use mathlib.Core.Bool.{Bool, cond}
 use lib.Dec.{eqb}
 use lib.IntN.{ℤ, pos}
 use Rattle.plane.specs.declared.Phases.{Phases}
@@ -10,15 +10,15 @@ use Rattle.phasors.specs.Rate.{Rate, sixteen}
 use Rattle.phasors.specs.Grid.{voltagesOf, localCurrents, current}
 use Rattle.settings.specs.Fields.{ends, slope, pickup, reach, secondReach}
 use Rattle.distance.specs.declared.direction.Direction.{Direction}
-use Rattle.distance.specs.declared.direction.Direction.the-variants.{None, Forward, Reverse}
 use Rattle.distance.specs.Sequence.{negativeSequence}
 use Rattle.distance.specs.Constants.{replica, compensation}
-use Rattle.distance.specs.Direction.{reachesPickup, directionOf, directionNumber}
+use Rattle.distance.specs.Direction.{reachesPickup, directionOf}
 use Rattle.distance.specs.declared.mho.SixLoops.{SixLoops}
 use Rattle.distance.specs.Mho.{loopsOf, loopBits}
 use Rattle.differential.specs.declared.Comparisons.{Comparisons}
-use Rattle.differential.specs.Differential.{comparisons, magnitude, operatingBits, slopesOfChange}
-use Rattle.decision.specs.declared.Findings.{Findings}
+use Rattle.differential.specs.Differential.{comparisons, operatingBits, slopesOfChange}
+use Rattle.findings.specs.declared.Findings.{Findings}
+use Rattle.findings.specs.DecisionRecord.{decisionBytes}
 
 -- ---- what is found in a window
 
@@ -70,49 +70,11 @@ findings s w =
       comparisons = comparisonsOf s w;
     }
 
--- ---- the trip rule
-
--- a byte of bits has one set
-abbrev pub any : ℕ → Bool
-any n = not (eqb n 0)
-
-abbrev pub isForward : Direction → Bool
-isForward None = false
-isForward Forward = true
-isForward Reverse = false
-
--- AB 8, BC 16 and CA 32 "all assert": these three bits of a byte of loops are set
-abbrev pub allPhaseLoops : ℕ → Bool
-allPhaseLoops n = eqb (n / 8 % 8) 7
-
--- Document 02, CR 4: "if |3I2|² is below its pickup squared and AB, BC and CA all assert in the first zone"
-abbrev pub balancedFault : ℕ → Bool → Bool
-balancedFault asserting unbalanced = not unbalanced && allPhaseLoops asserting
-
--- "1 if any phase operates, or direction is forward and any loop asserts; else 0", and a balanced fault "also sets trip". The second zone
--- "does not trip".
-abbrev pub trip : ℕ → ℕ → Direction → Bool → ℕ
-trip operating asserting direction unbalanced =
-    cond (any operating || ((isForward direction && any asserting) || balancedFault asserting unbalanced)) 1 0
-
--- ---- the bytes
+-- ---- the decision
 
 -- "32 bytes"
 abbrev pub decisionLength : ℕ
 decisionLength = 32
-
--- "32-bit big-endian": the four bytes of a number below 2^32
-abbrev pub word : ℕ → List ℕ
-word n = n / 16777216 ∷ n / 65536 % 256 ∷ n / 256 % 256 ∷ n % 256 ∷ []
-
--- bytes 0 to 3; "Decision byte 4 becomes its six loop bits" (document 02, CR 2); c of each phase "in decision bytes 5, 6 and 7" (CR 6); "U of
--- a, b, c", and "floor of the root of 4096 s, for a, b, c"
-abbrev pub decisionBytes : Findings → List ℕ
-decisionBytes f =
-    trip (f .operating) (f .asserting) (f .direction) (f .unbalanced) ∷ f .operating ∷ f .asserting ∷ directionNumber (f .direction)
-    ∷ f .overreaching ∷ f .changes .a ∷ f .changes .b ∷ f .changes .c
-    ∷ word (f .comparisons .a .restraint) ++ word (f .comparisons .b .restraint) ++ word (f .comparisons .c .restraint)
-    ++ word (magnitude (f .comparisons .a)) ++ word (magnitude (f .comparisons .b)) ++ word (magnitude (f .comparisons .c))
 
 -- the decision on a window
 abbrev pub decision : List ℕ → List ℤ → List ℕ

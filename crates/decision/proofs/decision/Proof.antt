@@ -1,6 +1,6 @@
 -- `decision::decision` meets its contract.
 use mathlib.Core.Path.{ap, _∙_}
-use Rattle.decision.specs.Decision.{decisionBytes}
+use Rattle.findings.specs.DecisionRecord.{decisionBytes}
 use Rattle.decision.proofs.decision.Statement.{statement}
 use Rattle.decision.proofs.decision.Tie as tie
 

@@ -1,9 +1,9 @@
--- `decision::with_word` meets its contract: the four bytes are put over the record.
+-- `findings::with_word` meets its contract: the four bytes are put over the record.
 use mathlib.Core.Path.{ap, _∙_}
 use borrow.Author.Needs.{needs}
 use Rattle.lent.specs.Lent.{over}
-use Rattle.decision.proofs.with_word.Statement.{statement}
-use Rattle.decision.proofs.with_word.Tie as tie
+use Rattle.findings.proofs.with_word.Statement.{statement}
+use Rattle.findings.proofs.with_word.Tie as tie
 
 returns : tie.Need-returns
 returns c =

@@ -1,8 +1,8 @@
--- `decision::trip` meets its contract: one law for each way out.
+-- `findings::trip` meets its contract: one law for each way out.
 use borrow.Author.Needs.{needs}
-use Rattle.decision.proofs.Cases.{by-phase, by-balance, by-loop, no-loop, not-directed, reversed}
-use Rattle.decision.proofs.trip.Statement.{statement}
-use Rattle.decision.proofs.trip.Tie as tie
+use Rattle.findings.proofs.Cases.{by-phase, by-balance, by-loop, no-loop, not-directed, reversed}
+use Rattle.findings.proofs.trip.Statement.{statement}
+use Rattle.findings.proofs.trip.Tie as tie
 
 pub trip-spec : {M : Type 1} → statement M
 trip-spec =

@@ -1,12 +1,12 @@
--- `decision::bytes` meets its contract: each number is written over zeros at its offset.
+-- `findings::bytes` meets its contract: each number is written over zeros at its offset.
 use mathlib.Core.Path.{_≡_, refl, _∙_}
 use mathlib.Core.List.{List}
 use Prim.Native.Nat.{ℕ}
 use borrow.Author.Needs.{needs}
 use Rattle.lent.specs.Lent.{over}
-use Rattle.decision.specs.Decision.{word}
-use Rattle.decision.proofs.bytes.Statement.{statement}
-use Rattle.decision.proofs.bytes.Tie as tie
+use Rattle.findings.specs.DecisionRecord.{word}
+use Rattle.findings.proofs.bytes.Statement.{statement}
+use Rattle.findings.proofs.bytes.Tie as tie
 
 -- one more number written over what is there
 more : (at : ℕ) {x r s : List ℕ} {m n : ℕ} → x ≡ over r at (word m) → r ≡ s → m ≡ n → x ≡ over s at (word n)

@@ -1,6 +1,6 @@
--- `decision::balanced_fault` meets its contract.
-use Rattle.decision.proofs.balanced_fault.Statement.{statement}
-use Rattle.decision.proofs.balanced_fault.Tie as tie
+-- `findings::balanced_fault` meets its contract.
+use Rattle.findings.proofs.balanced_fault.Statement.{statement}
+use Rattle.findings.proofs.balanced_fault.Tie as tie
 
 returns : tie.Need-returns
 returns c = rw (c .if1 .taken)

@@ -1,0 +1,50 @@
+-- Document 01, "Decision record": the trip rule, and the 32 bytes that tell what was found in a window.
+use Prim.Native.Nat.{ℕ, _/_, _%_}
+use mathlib.Core.List.{List, [], _∷_, _++_}
+use mathlib.Core.Bool.{Bool, true, false, not, cond, _&&_, _||_}
+use lib.Dec.{eqb}
+use Rattle.distance.specs.declared.direction.Direction.{Direction}
+use Rattle.distance.specs.declared.direction.Direction.the-variants.{None, Forward, Reverse}
+use Rattle.distance.specs.Direction.{directionNumber}
+use Rattle.differential.specs.Differential.{magnitude}
+use Rattle.findings.specs.declared.Findings.{Findings}
+
+-- ---- the trip rule
+
+-- a byte of bits has one set
+abbrev pub any : ℕ → Bool
+any n = not (eqb n 0)
+
+abbrev pub isForward : Direction → Bool
+isForward None = false
+isForward Forward = true
+isForward Reverse = false
+
+-- AB 8, BC 16 and CA 32 "all assert": these three bits of a byte of loops are set
+abbrev pub allPhaseLoops : ℕ → Bool
+allPhaseLoops n = eqb (n / 8 % 8) 7
+
+-- Document 02, CR 4: "if |3I2|² is below its pickup squared and AB, BC and CA all assert in the first zone"
+abbrev pub balancedFault : ℕ → Bool → Bool
+balancedFault asserting unbalanced = not unbalanced && allPhaseLoops asserting
+
+-- "1 if any phase operates, or direction is forward and any loop asserts; else 0", and a balanced fault "also sets trip". The second zone
+-- "does not trip".
+abbrev pub trip : ℕ → ℕ → Direction → Bool → ℕ
+trip operating asserting direction unbalanced =
+    cond (any operating || ((isForward direction && any asserting) || balancedFault asserting unbalanced)) 1 0
+
+-- ---- the bytes
+
+-- "32-bit big-endian": the four bytes of a number below 2^32
+abbrev pub word : ℕ → List ℕ
+word n = n / 16777216 ∷ n / 65536 % 256 ∷ n / 256 % 256 ∷ n % 256 ∷ []
+
+-- bytes 0 to 3; "Decision byte 4 becomes its six loop bits" (document 02, CR 2); c of each phase "in decision bytes 5, 6 and 7" (CR 6); "U of
+-- a, b, c", and "floor of the root of 4096 s, for a, b, c"
+abbrev pub decisionBytes : Findings → List ℕ
+decisionBytes f =
+    trip (f .operating) (f .asserting) (f .direction) (f .unbalanced) ∷ f .operating ∷ f .asserting ∷ directionNumber (f .direction)
+    ∷ f .overreaching ∷ f .changes .a ∷ f .changes .b ∷ f .changes .c
+    ∷ word (f .comparisons .a .restraint) ++ word (f .comparisons .b .restraint) ++ word (f .comparisons .c .restraint)
+    ++ word (magnitude (f .comparisons .a)) ++ word (magnitude (f .comparisons .b)) ++ word (magnitude (f .comparisons .c))

@@ -1,0 +1,2 @@
+-- The decision record: the trip rule, and the 32 bytes.
+pub mod DecisionRecord
