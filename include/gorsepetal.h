@@ -6,17 +6,18 @@
 ** Contents: what the library is / in short / lent slices / the relay's state / what comes back /
 ** two entries / settings record / units / tests at the panel / what each field should be /
 ** conventions / a line of three ends, worked out / window / frame by frame / event files /
-** decision / balanced faults / the second zone / rules / a decision, worked out / outside the
-** library / limits / constants / the ten calls.
+** decision / balanced faults / the second zone / how far off the slope can be / rules / a decision,
+** worked out / outside the library / limits / constants / the ten calls.
 **
 ** WHAT THE LIBRARY IS
 **
 ** libgorsepetal.a turns what the commissioning desk enters and one cycle of samples of the line
 ** into a decision. A settings record comes into force only when the same 32 bytes are proposed and
 ** then confirmed; it can be read back. Decide measures a window of samples by the record in force,
-** and says whether to trip and why. Feed does the same with one frame every sample time. Five calls
-** are for event files, the recordings that utilities send: events_read cuts a file into records and
-** feeds the frame of each, and events_write makes such records.
+** and says whether to trip and why. It also says of each phase up to which slope it would operate.
+** Feed does the same with one frame every sample time. Five calls are for event files, the
+** recordings that utilities send: events_read cuts a file into records and feeds the frame of each,
+** and events_write makes such records.
 **
 ** The library keeps nothing between calls and allocates nothing. It calls nothing but memcpy and
 ** memset, which a C compiler may use in any code: the archive has no other undefined symbol. All
@@ -115,6 +116,12 @@
 ** Version 4.0 had the state and the records of this version, and no event files. Such a state
 ** serves as it is, and the other way round. A reader of event files is a slice of its own, and no
 ** part of the state.
+**
+** Version 4.1 had the state, the records and the readers of this version. They serve as they are,
+** and the other way round. But by version 5 bytes 5, 6 and 7 of a decision are not zero any more:
+** see HOW FAR OFF THE SLOPE CAN BE. Firmware that compares whole decisions, or that took these
+** bytes for zero, has to know it. In a decision that was stored by an older version, zeros there
+** tell nothing.
 **
 ** WHAT COMES BACK
 **
@@ -262,7 +269,7 @@
 ** for that. In the test of a balanced fault all three phases are alike. All in secondary volts,
 ** amperes and ohms, with Z as it was entered (Z1, unless UNITS had you enter a part of it), k of
 ** the line, and r and r2 as fractions. The differential trips throughout: look at bytes 2, 3 and 4
-** of the decision, and at byte 0 only where it is said.
+** of the decision, and at others only where it is said.
 **
 **   - Reach: Ia behind Va by the angle of Z (1 + k), and Va = f x r x |Z (1 + k)| x Ia. In byte 2
 **     GORSEPETAL_LOOP_AG has to be set at f = 0.95 and not at f = 1.05.
@@ -282,14 +289,23 @@
 **     0.9, with Ia larger by a part x of the pickup. Byte 0 has to be 1 at x = 0.95 and 0 at x =
 **     1.05, and byte 3 has to be 0 at both. Then enter the line's own K again, twice, and read it
 **     back.
+**   - Slope, for a K below 100, with a second test set at another end: p on phase a of end 1, and q
+**     on phase a of the other, turned round. Let q = p (100 - x) / (100 + x): the differential is
+**     then x percent of the restraint. Let p + q be 3000 counts of peak or more, and p - q above
+**     the pickup. At x = K + 0.5 byte 5 has to be K, with GORSEPETAL_PHASE_A set in byte 1. At
+**     x = K - 0.5 byte 5 has to be K - 1, with that bit clear. Half a percent of error in q / p is
+**     no harm. Then the same on the other phases, with their bytes and bits.
 **   - Currents, under a load of known primary size. Bytes 8 to 19, divided by 64, have to be its
 **     peak counts, added up over the ends. Bytes 20 to 31, divided by 64, have to be no more than
 **     the charging current in peak counts and what the transformers' errors add. An end that is
 **     reversed or wrongly scaled shows here.
 **
-** Raise a current at one end until its phase operates: that is the pickup. These tests do not find
-** a transformer ratio that is wrong on paper, since it goes into the settings and into the test set
-** alike. The load shows it for the currents; for the voltages nothing here does.
+** Raise a current at one end, with none at the others, until its phase operates: that is the
+** pickup. There c goes from 0 to 99 at once, in byte 5 for phase a, 6 for b, 7 for c, at every K.
+**
+** These tests do not find a transformer ratio that is wrong on paper, since it goes into the
+** settings and into the test set alike. The load shows it for the currents; for the voltages
+** nothing here does.
 **
 ** WHAT EACH FIELD SHOULD BE
 **
@@ -302,7 +318,8 @@
 **        degrees. Load that flows through a fault adds to the restraint alone, and a fault that
 **        lets current out at an end leaves (in - out) / (in + out): 100 in and 40 out are 43
 **        percent, which slope 15 sees and slope 50 does not. At 100 no phase ever operates: the
-**        differential is off.
+**        differential is off. From recordings: K is above the c of every current through the line,
+**        and not above the c of any fault that has to trip. HOW FAR OFF THE SLOPE CAN BE has c.
 **   pickup
 **        above the charging current of the line, which flows in and not out again and is not
 **        compensated here, and above what the error of the transformers adds to it; below the
@@ -376,10 +393,10 @@
 **
 ** A current transformer that is reversed at one end looks like this. Under load the differential
 ** is twice that end's current. On a line of two ends that is 100 percent of the restraint, so the
-** phase operates at every slope up to 99 as soon as its pickup is reached. With one phase reversed
-** at end 1, 3I2 is twice that phase's load current, so a direction may appear under load. With all
-** three reversed at end 1, T has the other sign: a fault ahead looks like one behind. So does a
-** balanced one, and one behind may trip.
+** phase operates at every slope up to 99 as soon as its pickup is reached, and its c reads 99. With
+** one phase reversed at end 1, 3I2 is twice that phase's load current, so a direction may appear
+** under load. With all three reversed at end 1, T has the other sign: a fault ahead looks like one
+** behind. So does a balanced one, and one behind may trip.
 **
 ** A LINE OF THREE ENDS, WORKED OUT
 **
@@ -613,7 +630,8 @@
 ** or lend a fresh relay in which that was done, or write zeros to bytes 64 to 737 of the state, as
 ** FRAME BY FRAME says: 10 comes for 15 records. Files that are read by turns take a relay and a
 ** reader each. Do not lend the relay that guards the line: the frames of the file would go into
-** its window.
+** its window. A file has to be read once only to know what every slope would have made of it: HOW
+** FAR OFF THE SLOPE CAN BE.
 **
 ** A file that was damaged is noticed by its numbers. Where a record before the last is missing,
 ** and in nearly every case where a byte was lost or put in, the next number is not one above the
@@ -669,7 +687,7 @@
 **
 ** 32 bytes, GORSEPETAL_DECISION_LENGTH. U is the restraint of a phase and s the squared magnitude
 ** of its differential; RULES has the formulas. U and the root of 4096 s are both in
-** sixty-fourths of a count.
+** sixty-fourths of a count. c is the slope at which a phase changes, in percent.
 **
 **   bytes      content
 **   0          trip: 1 or 0
@@ -677,7 +695,9 @@
 **   2          the loops that assert, added up: AG 1, BG 2, CG 4, AB 8, BC 16, CA 32
 **   3          direction: 0 none, 1 forward, 2 reverse
 **   4          the loops that assert in the second zone, added up as in byte 2; 0 where r2 is 0
-**   5 to 7     zero
+**   5          c of phase a, 0 to 99: the phase operates at the slopes 1 to c, and at no other
+**   6          the same of phase b
+**   7          the same of phase c
 **   8 to 11    U of phase a, 32 bits, upper byte first
 **   12 to 15   U of phase b
 **   16 to 19   U of phase c
@@ -700,7 +720,7 @@
 **   byte 3 is 0, and byte 1 is 0 too    a balanced fault, in the first zone; byte 2 is 56 to 63
 **
 ** If byte 1 is not 0 and byte 3 is 0, the decision does not tell whether the rule for balanced
-** faults held too.
+** faults held too. The same window decided with a K of 100 does: byte 0 is then by distance alone.
 **
 ** No direction is asked, no least current and no least voltage. What follows from that has to be
 ** seen to before version 4 guards a line:
@@ -770,6 +790,77 @@
 ** GORSEPETAL_DIRECTION_REVERSE, which takes a 3I2 at its pickup. In the third nothing here can
 ** tell.
 **
+** HOW FAR OFF THE SLOPE CAN BE
+**
+** Bytes 5, 6 and 7 have a number c for each phase (document 02, CR 6): with all else equal, the
+** phase operates at the slopes 1 to c and at no other. For each window there is one such number. It
+** is where the phase changes: at slope c it operates, and at slope c + 1 it does not.
+**
+**   c         what it says of the phase
+**   0         it operates at no slope: the differential is below the pickup, or at most 1 percent
+**             of the restraint
+**   1 to 98   it operates up to slope c
+**   99        it operates at every slope but 100, at which no phase does
+**
+** The phase's bit in byte 1 is set exactly if K is at most c.
+**
+** The paper mill: 100 counts flowed into the line at end 1, and 40 out of it at end 2. The slope
+** was said as 15 and heard as 50, which is 35 off. This fault has c = 42. So a slope up to 27 too
+** large would still have operated: 42 does, and 43 does not.
+**
+** So the question has two answers:
+**
+**   - Of a fault that has to trip: K can be up to c - K too large.
+**   - Of a current through the line that must not trip: K can be up to K - c - 1 too small, since
+**     at slope c it operates.
+**
+** c does not depend on K. A decision that was taken at a wrong slope has the same c as at the right
+** one, so it still tells what the right one would have done. One recording answers for all slopes,
+** be it handed to decide or feed once more, or read as an event file. Decide on it with a K of 100,
+** in a relay that guards no line: byte 1 is then 0, and byte 0 is by distance alone. At a slope of
+** x the relay would have tripped exactly if byte 0 is 1, or one of bytes 5 to 7 is x or more.
+**
+** Of the record c depends on N and on the pickup alone: below the pickup it is 0. To see c of a
+** smaller differential, decide on it with a pickup of 1, in a relay that guards no line.
+**
+** At the panel: inject currents, read c, and compare it with 100 x differential / restraint. With p
+** into the line at one end, q out of it at another, in phase, and none elsewhere, that is
+**
+**   x = 100 (p - q) / (p + q)
+**
+** and c is the largest whole number below x. At a slope of x itself the phase does not operate:
+**
+**   p     q    x       c
+**   100   40   42.86   42
+**   90    30   50      49
+**   100   0    100     99
+**
+** From a decision: let D be the number of bytes 20 to 23 and U that of bytes 8 to 11, for phase a.
+** If the pickup is reached and U is above 100, c is the largest whole number below 100 D / U, or
+** one more than that, since D was rounded down. For 100 and 40 they are 3840 and 8960.
+**
+** c is of this window and of its rounded phasors. The currents before rounding agree with it within
+** one and a half counts an end. Their differential is at least c percent of their restraint, less
+** 1.5 N counts. Where the pickup is reached, it is at most c + 1 percent of it, and 1.5 N counts
+** more. Of a restraint of R counts these counts are 150 N / R percent. For the mill, with 140
+** counts at two ends, that is 2.1 percent, and for 3000 counts it is 0.1. So with few counts c
+** tells little. A steady wave of the mill's currents has c = 42 in some windows and c = 43 in
+** others.
+**
+** As formulas, with A and B an end's sums before rounding, and m any whole number from 1:
+**
+**   L = the sum over the ends of the floor of the root of m^2 (A^2 + B^2), H = L + N
+**   F = the floor of the root of m^2 ((sum of all A)^2 + (sum of all B)^2)
+**   for every m: 100 (F + 1 + 196608 N m) > c L
+**   for every m, if s >= pickup^2: 100 F < (c + 1) H + 19660800 N m
+**
+** In the first cycle of a fault c changes from frame to frame, as the fault fills the window. Take
+** it from windows that lie wholly in the fault. An offset that decays moves c too, as it moves the
+** magnitudes: LIMITS.
+**
+** c says nothing of distance, of direction or of the trip: with c = 0 in all phases the loops may
+** still trip.
+**
 ** RULES
 **
 ** All in whole numbers; settings stand in the formulas as the numbers of the record. A complex
@@ -813,6 +904,8 @@
 **   s = |I1 + .. + IN|^2
 **   U = the sum over the ends of the smallest whole number whose square is at least 4096 |I|^2
 **   the phase operates exactly when s >= pickup^2 and 40960000 s > (K U)^2
+**   c = the largest whole number x from 1 to 100 with s >= pickup^2 and 40960000 s > (x U)^2; 0 if
+**       there is none. It is 99 at most, since 64 times the root of s is at most U
 **
 ** Trip: 1 exactly when a phase operates, or the direction is forward and a loop asserts, or |3I2|^2
 ** < (pickup of 3I2)^2 and AB, BC and CA all assert. The second zone has no part in it.
@@ -835,11 +928,13 @@
 **       12990000000000 > 1500 m = 7889880000000: nor in the second zone
 **   phase a: s = 150^2 + 790^2 = 646600, above 57^2; U = 38411 + 13054 = 51465
 **       40960000 s = 26484736000000 > (30 x 51465)^2 = 2383781602500: operates
+**       26484736000000 > (99 x 51465)^2 = 25959381651225, and not > (100 x 51465)^2 =
+**       26486462250000: c = 99 = 63 hex
 **   root of 4096 s: 51463
 **
-** The other loops do not assert, and phases b and c have s = U = 0. The 32 bytes:
+** The other loops do not assert, and phases b and c have s = U = 0, and c = 0. The 32 bytes:
 **
-**   01 01 01 01 01 00 00 00 00 00 C9 09 00 00 00 00 00 00 00 00 00 00 C9 07 00 00 00 00 00 00 00 00
+**   01 01 01 01 01 63 00 00 00 00 C9 09 00 00 00 00 00 00 00 00 00 00 C9 07 00 00 00 00 00 00 00 00
 **
 ** Then a fault beyond the line: Va (1800, 0), Ia of end 1 (83, -444), Ia of end 2 (-83, 444), and
 ** all else as above. What flows in at end 1 flows out at end 2.
@@ -849,7 +944,7 @@
 **   AG: n = 10440000   m = 8704640000, so it seems to lie at 1199 thousandths of Z
 **       10440000000000 > 800 m = 6963712000000: does not assert
 **       10440000000000 <= 1500 m = 13056960000000: asserts in the second zone
-**   phase a: s = 0; U = 28909 + 28909 = 57818
+**   phase a: s = 0; U = 28909 + 28909 = 57818; c = 0, since s is below 57^2
 **
 ** The direction is forward, and no loop but AG asserts in the second zone. There is no trip. The
 ** lamp is lit:
@@ -889,6 +984,8 @@
 **     hold a trip or keep the lamp lit, is the firmware's matter.
 **   - A frame that feed was never handed, or was handed twice, is not detected. The waves in the
 **     window then have a step, and the phasors are wrong until it has passed, 15 frames later.
+**   - c is of one window and of rounded phasors, and tells nothing of distance: HOW FAR OFF THE
+**     SLOPE CAN BE.
 **
 ** What the reading of an event file cannot tell:
 **   - Times and status bits are not looked at. Times that stand still, go back or leave a gap are
@@ -927,8 +1024,8 @@ extern "C" {
 #endif
 
 /* The version of this file and of the archive: text, and 10000 major + 100 minor + patch. */
-#define GORSEPETAL_VERSION "4.1.0"
-#define GORSEPETAL_VERSION_NUMBER 40100
+#define GORSEPETAL_VERSION "5.0.0"
+#define GORSEPETAL_VERSION_NUMBER 50000
 
 /* Lengths in bytes: a relay's state, a settings record and a decision. */
 #define GORSEPETAL_STATE_LENGTH 738
@@ -986,6 +1083,9 @@ extern "C" {
 #define GORSEPETAL_DECISION_AT_LOOPS 2
 #define GORSEPETAL_DECISION_AT_DIRECTION 3
 #define GORSEPETAL_DECISION_AT_SECOND_ZONE 4
+#define GORSEPETAL_DECISION_AT_CHANGE_A 5
+#define GORSEPETAL_DECISION_AT_CHANGE_B 6
+#define GORSEPETAL_DECISION_AT_CHANGE_C 7
 #define GORSEPETAL_DECISION_AT_RESTRAINT_A 8
 #define GORSEPETAL_DECISION_AT_RESTRAINT_B 12
 #define GORSEPETAL_DECISION_AT_RESTRAINT_C 16

@@ -17,6 +17,7 @@ from tree import ROOT, blank, fault, faults, read
 README = Path('README.md')
 WRONG_RELAYS = Path('docs/WRONG-RELAYS.md')
 OF_THE_COMPARISON = Path('tests/independent/README.md')
+WORKED = Path('crates/claims/specs/Worked.antt')
 FOLDERS = ('crates', 'docs', 'tests', 'tools', 'include', 'examples', 'bench', '.ci')
 ROOT_FILES = ('build.sh', 'crates.txt', 'README.md', 'LICENSE')
 NAME = re.compile(r"[^\W\d][\w'·-]*")
@@ -211,21 +212,34 @@ def check_symbols():
 
 
 def check_relay():
-    """What README.md says of the relay's state and of feed; and in the newest version of docs/CHANGES.md, where bytes of the state, of a reader
-    or of an event file's record, or frames are counted, their count."""
+    """What README.md says of the relay's state and of feed; and in the newest version of docs/CHANGES.md, where bytes of the state, of a reader,
+    of a decision or of an event file's record, or frames are counted, their count."""
     *begins, length = header.state_offsets()
     records, empty, text = begins[2], header.constants('samples')['FRAMES'] - 1, newest()
     reader = [header.constants('events').get('LENGTH'), *(at for part in header.reader_parts().values() for at in part)]
+    decision = [at for begin, size in header.decision_parts().values() for at in (begin, begin + size)]
     wanted = f'a relay is {length} bytes', f'for {empty} frames after it there is no decision by feed'
     faults.extend(f'{README}: it does not say "{words}"' for words in wanted if words not in ' '.join(document(README).split()))
     parts = re.findall(r'\bbytes (\d+) to (\d+)', text)
     lengths = {records, length - records, length, reader[0], *(header.record_bytes(ends, status) for ends in range(2, 7) for status in range(97))}
     wrong = [f'{number} bytes' for number in re.findall(r'\b(\d+)(?: zero)? bytes', text) if int(number) not in lengths]
     wrong += [f'bytes {first} to {last}' for first, last in parts
-              if not any(int(first) in known and int(last) + 1 in known for known in ((*begins, length), reader))]
+              if not any(int(first) in known and int(last) + 1 in known for known in ((*begins, length), reader, decision))]
     wrong += [f'{number} frames' for number in re.findall(r'\b(\d+) frames', text) if int(number) not in (empty, empty + 1)]
-    faults.extend(f'{header.CHANGES}: {words} are not what the state, a reader or a record has' for words in wrong)
+    faults.extend(f'{header.CHANGES}: {words} are not what the state, a reader, a decision or a record has' for words in wrong)
     return 2 + len(parts)
+
+
+def check_worked():
+    """How many decisions README.md says are proved examples, and which bytes of each."""
+    lists = re.findall(r'\w+', header.definition(WORKED, 'worked'))
+    bodies = [re.search(rf'^{name} =\n((?:    .*\n)+)', blank(r'--[^\n]*', read(WORKED)), flags=re.MULTILINE) for name in lists]
+    rows = [line.strip() for body in bodies if body for line in body[1].splitlines() if line.strip() not in ('', '∷ []')]
+    taken = re.search(r'take (\d+) \(decision ', header.definition(WORKED, 'WorkedDecisions'))
+    words = f'bytes 0 to {int(taken[1]) - 1 if taken else 31} of {len(rows)} decisions stand as proved examples'
+    if words not in ' '.join(document(README).split()):
+        faults.append(f'{README}: it does not say "{words}"')
+    return len(rows)
 
 
 # Must-fail edits

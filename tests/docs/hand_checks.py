@@ -4,7 +4,7 @@ import re
 from pathlib import Path
 
 import rules
-from header import answers, placed
+from header import answers, placed, wanted_constants
 from left import CHANNELS, COUNT, FRAMES, GOOD, LENGTH, MISSING, NUMBERS, call, to_bytes, with_field
 from tree import faults, read, tables
 
@@ -98,9 +98,10 @@ def spread(cell, count, step):
 
 
 def shown(c):
-    """The count that a feed left, its answer, and the front of its decision."""
+    """The count that a feed left, its answer, the front of its decision, and c of phase a."""
     answer = f'{c.number} at {c.place}' if c.number in placed() else str(c.number)
-    return str(int.from_bytes(c.state_after[COUNT:NUMBERS], 'big')), answer, '' if c.number else c.room_after[:4].hex(' ').upper()
+    front, change = ('', '') if c.number else (c.room_after[:4].hex(' ').upper(), str(c.room_after[wanted_constants()['DECISION_AT_CHANGE_A']]))
+    return str(int.from_bytes(c.state_after[COUNT:NUMBERS], 'big')), answer, front, change
 
 
 def check_rows(rows, found):
@@ -110,7 +111,7 @@ def check_rows(rows, found):
         first, _, last = row['fed'].partition(' to ')
         count = int(last or first) - int(first) + 1
         told += zip(range(int(first), int(first) + count), spread(row['count then'], count, 1), spread(row['answer'], count, -CHANNELS),
-                    [row['bytes 0 to 3']] * count)
+                    [row['bytes 0 to 3']] * count, [row['byte 5, c of a']] * count)
     wanted = [(f, *shown(c)) for f, c in enumerate(found, 1)]
     for row, other in zip(told, wanted):
         if row != other:
@@ -128,7 +129,10 @@ def check_steps(c):
     s = measuring.squared(total)
     steps = [f'({p.re}, {p.im})' for p in ends] + [f'he sum is ({total.re}, {total.im}), so s = ', f'= {u}', f'= {s}']
     if c.room_after[1]:
-        steps += [f'40960000 · {s} = {40960000 * s} is above ({slope} · {u})² = {slope * u}² = {(slope * u) ** 2}']
+        change, left = c.room_after[wanted_constants()['DECISION_AT_CHANGE_A']], 40960000 * s
+        at, next_ = (f'above ({slope} · {u})² = {slope * u}² = {(slope * u) ** 2}' for slope in (change, change + 1))
+        steps += [f'40960000 · {s} = {left} is above ({slope} · {u})² = {slope * u}² = {(slope * u) ** 2}',
+                  f'| c | {change}: it is {at}, and not {next_} |']
     for step in steps:
         if step not in section():
             wrong(f'frame by frame, there is no "{step}"')
@@ -182,7 +186,7 @@ def check_order(name, slice_, rows):
         missing = rules.numbers(row.get('missing', row.get('missing in the frame', '')))
         lent = to_bytes([MISSING if k in missing else 0 for k in range(size // 2 + 1)])[:size]
         c = call(name, state[:first_number(row['state'])], lent, bytes(first_number(row['room'])))
-        _, answer, _ = shown(c)
+        _, answer, *_ = shown(c)
         left = re.search(r'and (\d+) in the state', row['answer'])
         if re.split('[:,]', row['answer'])[0] != answer or left and left[1] != shown(c)[0]:
             wrong(f'{name} is said to answer "{row["answer"]}"; it is {answer}')

@@ -138,23 +138,29 @@ def six_loops():
 # Each part of a decision that has one byte, by the definition of its bytes. What the trip is made of stands there too: the second zone is
 # not among it.
 PARTS = {'trip (f .operating) (f .asserting) (f .direction) (f .unbalanced)': 'TRIP', 'f .operating': 'PHASES', 'f .asserting': 'LOOPS',
-         'directionNumber (f .direction)': 'DIRECTION', 'f .overreaching': 'SECOND_ZONE'}
+         'directionNumber (f .direction)': 'DIRECTION', 'f .overreaching': 'SECOND_ZONE',
+         **{f'f .changes .{phase}': f'CHANGE_{phase.upper()}' for phase in 'abc'}}
 
 
-def decision_offsets():
-    """The offset of each part, by `decisionBytes`: a `word` has four bytes, all else one."""
+def decision_parts():
+    """The offset of each part and its length, by `decisionBytes`: a `word` has four bytes, all else one."""
     at, found = 0, {}
-    for part in re.split(r' (?:∷|\+\+) ', definition('crates/decision/specs/Decision.antt', 'decisionBytes')):
+    for part in re.split(r' (?:∷|\+\+) ', definition('crates/findings/specs/DecisionRecord.antt', 'decisionBytes')):
         word = re.fullmatch(r'word \((magnitude \()?f \.comparisons \.(\w)( \.restraint)?\)+', part)
         name = PARTS.get(part)
         if word:
             name = f'{"DIFFERENTIAL" if word.group(1) else "RESTRAINT"}_{word.group(2).upper()}'
+        length = 4 if word else 1
         if name:
-            found[f'DECISION_AT_{name}'] = at
-        elif part != '0':
+            found[f'DECISION_AT_{name}'] = at, length
+        else:
             faults.append(f'decisionBytes has a part that this check does not know: {part}')
-        at += 4 if word else 1
+        at += length
     return found
+
+
+def decision_offsets():
+    return {name: at for name, (at, _) in decision_parts().items()}
 
 
 def state_offsets():

@@ -6,8 +6,8 @@ import re
 from itertools import groupby
 from pathlib import Path
 
-from header import (HEADER, answers, constants, decision_offsets, directions, exported, header, placed, public, reader_parts, six_loops,
-                    state_offsets, weights)
+from header import (HEADER, answers, constants, decision_offsets, decision_parts, directions, exported, header, placed, public,
+                    reader_parts, six_loops, state_offsets, wanted_constants, weights)
 from tree import blank, fault, faults, read
 
 TABLE = Path('crates/settings/specs/Table.antt')
@@ -225,6 +225,12 @@ def check_settings_table():
     return len(found) + len(rules)
 
 
+def largest_slope():
+    """By the table of crates/settings."""
+    at = str(wanted_constants()['AT_SLOPE'])
+    return next((int(high) for kind, *words in map(str.split, settings_rules()) if words[0] == at for high in words[2:]), 0)
+
+
 def check_window():
     """The lengths of windows, and the indexes of the window that is drawn."""
     text, frames = section('WINDOW'), constants('samples')['FRAMES']
@@ -244,17 +250,17 @@ def check_decision_table():
     """The table of a decision has its parts at their offsets, and the bits and numbers of the definitions."""
     rows = re.findall(r'^\*\*   (\d+)(?: to (\d+))?  +(\S.*)$', section('DECISION'), flags=re.MULTILINE)
     told = ' '.join(text for _, _, text in rows)
-    begins = [int(first) for first, _, _ in rows]
-    ends = [int(last or first) for first, last, _ in rows]
-    told_of = {at + k for name, at in decision_offsets().items() for k in range(4 if name[-2] == '_' else 1)}
-    zeros = min({*range(32)} - told_of)  # the first byte that is zero
-    if sorted([*decision_offsets().values(), zeros]) != begins or ends != [at - 1 for at in begins[1:]] + [31]:
-        faults.append(f'{HEADER}: the table of a decision has {[*zip(begins, ends)]}; the source has {decision_offsets()}')
+    found = [(int(first), int(last or first)) for first, last, _ in rows]
+    wanted = [(at, at + length - 1) for at, length in decision_parts().values()]
+    if found != wanted:
+        faults.append(f'{HEADER}: the table of a decision has {found}; the source has {wanted}')
     phases = weights('crates/differential/specs/Differential.antt', 'operatingBits')
     loops = weights('crates/distance/specs/Mho.antt', 'loopBits')
     second = f'in the second zone, added up as in byte {decision_offsets().get("DECISION_AT_LOOPS")}; 0 where r2 is 0'
+    change = (f'c of phase a, 0 to {largest_slope() - 1}: the phase operates at the slopes 1 to c, and at no other '
+              'the same of phase b the same of phase c')
     for words in (', '.join(f'{name.lower()}={bit}' for name, bit in phases.items()), ', '.join(f'{name} {bit}' for name, bit in loops.items()),
-                  ', '.join(f'{bit} {name.removeprefix("DIRECTION_").lower()}' for name, bit in directions().items()), second):
+                  ', '.join(f'{bit} {name.removeprefix("DIRECTION_").lower()}' for name, bit in directions().items()), second, change):
         if words not in told:
             faults.append(f'{HEADER}: the table of a decision does not say "{words}"')
     return len(rows)
@@ -293,6 +299,8 @@ def check_rules():
         f'asserts exactly when m > 0 and {mho["REACH_SCALE"]} n <= r m',
         f'in the second zone, exactly when r2 > 0 and m > 0 and {mho["REACH_SCALE"]} n <= r2 m', f'at least {differential["SIXTY_FOURTHS_SQUARED"]} |I|^2',
         f's >= pickup^2 and {differential["SLOPE_SCALE"]} s > (K U)^2',
+        f'from 1 to {largest_slope()} with s >= pickup^2 and {differential["SLOPE_SCALE"]} s > (x U)^2; 0 if there is none. It is '
+        f'{largest_slope() - 1} at most, since {math.isqrt(differential["SIXTY_FOURTHS_SQUARED"])} times the root of s is at most U',
     ]
     faults.extend(f'{HEADER}: RULES does not have "{formula}"' for formula in wanted if formula not in text)
     return len(wanted)

@@ -132,6 +132,7 @@ def worked_out(name):
         'windowAt': {count, first - 1, first, end - 1, longest}, 'none': {longest}, 'emptied': {end - count},
         'keptAnswer': {constants()['frames'] - 1},
         'groups': {header.record_bytes(ends, status) for ends in range(2, 7) for status in (0, 96)},
+        'ChangeMovesThree': {constants()['decisionLength'] - 1},
     }.get(name, set())
 
 
@@ -195,7 +196,7 @@ def check_back():
         given, _, result = row['example'].rpartition(': ')
         values = {name: float(value) for name, value in re.findall(r'(\w+) = (-?[\d.]+)', given)}
         formula = row['formula'].replace('·', '*').replace('²', '**2').replace('√', 'sqrt')
-        if not re.fullmatch(r'[\w\s()+*/.]+', formula) or not set(re.findall(r'[a-zA-Z]+', formula)) <= {*known, *values, 'sqrt'}:
+        if not re.fullmatch(r'[\w\s()+*/.-]+', formula) or not set(re.findall(r'[a-zA-Z]+', formula)) <= {*known, *values, 'sqrt'}:
             faults.append(f'{PAGE}: "{row["example"]}" has not what its formula needs')
             continue
         shown, exact = result.split()[0], eval(formula, {'sqrt': math.sqrt, **known, **values})
@@ -331,17 +332,16 @@ def check_measuring():
 
 # How the page begins to tell of a decision's parts, by the names that the header has for them
 CONTENT = {'TRIP': 'trip', 'PHASES': 'phases', 'LOOPS': 'loops', 'DIRECTION': 'direction', 'SECOND': 'second zone',
-           None: 'zero',
-           'RESTRAINT': 'restraint U', 'DIFFERENTIAL': '⌊√(4096 s)⌋'}
+           'CHANGE': 'c of a, of b, of c', 'RESTRAINT': 'restraint U', 'DIFFERENTIAL': '⌊√(4096 s)⌋'}
 
 
 def check_decision():
     """The bytes of a decision, the bits of phases and loops, the numbers of directions; V, I and Vp of each loop."""
-    parts = {at + k: name.split('_')[2] for name, at in header.decision_offsets().items() for k in range(4 if name[-2] == '_' else 1)}
+    parts = {at + k: name.split('_')[2] for name, (at, length) in header.decision_parts().items() for k in range(length)}
     wanted, rows = [], columns('bytes', 'content')
     for name, group in groupby(range(constants()['decisionLength']), key=parts.get):
         first, *_, last = [*group] * 2
-        wanted.append([f'{first} to {last}' if first < last else str(first), CONTENT[name]])
+        wanted.append([f'{first} to {last}' if first < last else str(first), CONTENT.get(name)])
     found = [[place, next((word for word in CONTENT.values() if text.startswith(word)), text)] for place, text in rows]
     compare('the decision', found, wanted)
     said = ' '.join(text for _, text in rows)

@@ -121,7 +121,7 @@ def steps_on_the_line(text, record, r2):
     line, square, ag, slope = w.line, measuring.squared(w.i2), w.loops['AG'], record[3]
     e = measuring.k_product(line, w.i)
     (n, m), (n_ab, m_ab) = (measuring.n_and_m(line.Z, w.loops[name]) for name in ('AG', 'AB'))
-    s, u = measuring.squared(measuring.plus(*w.currents)), int.from_bytes(w.decided[8:12], 'big')
+    s, u, c = measuring.squared(measuring.plus(*w.currents)), int.from_bytes(w.decided[8:12], 'big'), w.decided[5]
     return [
         f'3V1 = {shown(w.v1)}', f'3V2 = {shown(w.v2)}', f'3I2 = {shown(w.i2)}', f'|3I2|^2 = {square}, above {line.pickup}^2',
         f'T = {w.T}, below {line.zf} x {square} = {line.zf * square}: forward',
@@ -129,6 +129,7 @@ def steps_on_the_line(text, record, r2):
         f'n = {n} m = {m} 1000000 n = {compared(n, line.r, m)}: asserts, and so in the second zone too',
         f'n = {n_ab} m = {m_ab}: {1000000 * n_ab} > {line.r * m_ab}, does not assert {compared(n_ab, r2, m_ab)}: nor in the second zone',
         f'= {s}, above {record[5]}^2', f'= {u}', f'40960000 s = {40960000 * s} > ({slope} x {u})^2 = {(slope * u) ** 2}: operates',
+        f'{40960000 * s} > ({c} x {u})^2 = {(c * u) ** 2}, and not > ({c + 1} x {u})^2 = {((c + 1) * u) ** 2}: c = {c} = {c:02X} hex',
         f'root of 4096 s: {int.from_bytes(w.decided[20:24], "big")}', w.decided.hex(' ').upper(),
     ]
 
@@ -146,7 +147,8 @@ def steps_beyond(text, first, record, r2):
         f'3V1 = {shown(w.v1)} 3V2 = {shown(w.v2)} 3I2 = {shown(w.i2)} |3I2|^2 = {square}',
         f'T = {w.T}, below {w.line.zf} x {square} = {w.line.zf * square}: forward',
         f'AG: n = {n} m = {m}, so it seems to lie at {1000000 * n // m} thousandths of Z {compared(n, w.line.r, m)}: does not assert {compared(n, r2, m)}: asserts in the second zone',
-        f's = {s}; U = {u[0]} + {u[1]} = {int.from_bytes(w.decided[8:12], "big")}', w.decided.hex(' ').upper(),
+        f's = {s}; U = {u[0]} + {u[1]} = {int.from_bytes(w.decided[8:12], "big")}; c = {w.decided[5]}, since s is below {record[5]}^2',
+        w.decided.hex(' ').upper(),
     ]
 
 

@@ -1,8 +1,8 @@
 -- The slope at which it changes: all but the bytes themselves is read off what demand 2 tells.
 use Prim.Native.Nat.{ℕ, zero, suc, _+_, _≤_, _<_}
 use mathlib.Core.Path.{_≡_, refl, sym, ap, _∙_}
-use mathlib.Core.Logic.{_⊎_, ⊎-elim}
-use mathlib.Core.List.{List, _++_}
+use mathlib.Core.Logic.{_⊎_, inl, inr, ⊎-elim}
+use mathlib.Core.List.{List, [], _∷_, _++_}
 use mathlib.Core.Bool.{true}
 use native.Mathlib.Omega.{arith}
 use lib.IntN.{ℤ}
@@ -17,10 +17,10 @@ use Rattle.findings.specs.declared.Findings.{Findings}
 use Rattle.findings.specs.DecisionRecord.{decisionBytes}
 use Rattle.decision.specs.Decision.{findings, decisionLength}
 use Rattle.gorsepetal.proofs.Good.{in-range}
-use Rattle.claims.specs.Bits.{isSet}
+use Rattle.claims.specs.Bits.{isSet, AnyOf}
 use Rattle.claims.specs.Alike.{SameBut}
-use Rattle.claims.specs.Demand2.{OperatesAt, Operates, byte, Tells}
-use Rattle.claims.specs.Change.{OneChange, SameStory, HowFarOff, bytesBefore, ChangeMovesThree}
+use Rattle.claims.specs.Demand2.{OperatesAt, Operates, TripsForward, TripsBalanced, byte, Tells}
+use Rattle.claims.specs.Change.{OneChange, SameStory, AtAnotherSlope, bytesBefore, ChangeMovesThree}
 use Rattle.claims.proofs.Decisions.{good, front}
 use Rattle.claims.proofs.Alike.{same-field, byte-is}
 use Rattle.claims.proofs.Demand2.{for-three, demand-2}
@@ -44,6 +44,12 @@ same-story s w out d c p l =
 
 -- ---- two slopes
 
+some-of-three : {A B C D E F : Type 0} → (A → D) → (B → E) → (C → F) → AnyOf (A ∷ B ∷ C ∷ []) → AnyOf (D ∷ E ∷ F ∷ [])
+some-of-three f g h (inl a) = inl (f a)
+some-of-three f g h (inr (inl b)) = inr (inl (g b))
+some-of-three f g h (inr (inr (inl c))) = inr (inr (inl (h c)))
+some-of-three f g h (inr (inr (inr none))) = absurd none
+
 -- what was found, with no phase that operates
 abbrev unsloped : Findings → Findings
 unsloped f = record { operating = 0; asserting = f .asserting; overreaching = f .overreaching; unbalanced = f .unbalanced; direction = f .direction; changes = f .changes; comparisons = f .comparisons }
@@ -60,13 +66,32 @@ same-findings s t h w =
     rw (same 0 refl, same 4 refl, same 6 refl, same 8 refl, same 10 refl, same 12 refl, same 14 refl)
     (rw (same 16 refl, same 18 refl, same 20 refl, same 22 refl, same 24 refl, same 26 refl))
 
-pub how-far-off : HowFarOff
-how-far-off s t w out d e h c b =
+-- what trips by distance is the same
+same-distance : (s t : List ℕ) → SameBut slopeRow s t → (w : List ℤ) → (TripsForward s w ⊎ TripsBalanced s w) ≡ (TripsForward t w ⊎ TripsBalanced t w)
+same-distance s t h w =
+    let same = same-field slopeRow s t h in
+    rw (same 0 refl, same 6 refl, same 8 refl, same 10 refl, same 12 refl, same 14 refl)
+    (rw (same 16 refl, same 18 refl, same 20 refl, same 24 refl))
+
+pub at-another-slope : AtAnotherSlope
+at-another-slope s t w out d e h c b =
     let rest = drop decisionLength out in
     let alike : (k : ℕ) → 2 ≤ k → byte d k ≡ byte e k = λ k l.
     ap (λ x. byte x k) (front c) ∙ from-2 (findings s w) rest k l ∙ ap (λ f. getD (decisionBytes f ++ rest) k 0) (same-findings s t h w)
     ∙ sym (from-2 (findings t w) rest k l) ∙ sym (ap (λ x. byte x k) (front b)) in
-    (λ p l. rw (alike (5 + p) (omega arith)) (same-story t w out e b p l), alike)
+    let told = demand-2 t w out e b .0 in
+    let range = in-range t (good b) .slope-range in
+    let at-most-c : (p : ℕ) → p < 3 → Exactly (Operates t w p) (slope t ≤ byte d (5 + p)) = λ p l.
+    rw (alike (5 + p) (omega arith)) (told .changes p l .1 (slope t) (range .least) (range .most)) in
+    let pa = at-most-c 0 (omega arith) in let pb = at-most-c 1 (omega arith) in let pc = at-most-c 2 (omega arith) in
+    record {
+      phases = λ p l. rw (alike (5 + p) (omega arith)) (same-story t w out e b p l);
+      trips = rw (same-distance s t h w) (
+        λ trip. ⊎-elim (λ any. inl (some-of-three (pa .0) (pb .0) (pc .0) any)) inr (told .trip .0 trip),
+        λ by. told .trip .1 (⊎-elim (λ any. inl (some-of-three (pa .1) (pb .1) (pc .1) any)) inr by),
+      );
+      others = alike;
+    }
 
 -- ---- as before
 

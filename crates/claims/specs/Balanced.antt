@@ -42,7 +42,7 @@ NoVoltage =
 
 -- ---- what it does not move
 
--- The decision as it was: "1 if any phase operates, or direction is forward and any loop asserts; else 0", and the other bytes.
+-- The decision without this rule: "1 if any phase operates, or direction is forward and any loop asserts; else 0", and the other bytes.
 abbrev pub bytesBefore : Findings → List ℕ
 bytesBefore f = recordWith (cond (any (f .operating) || (isForward (f .direction) && any (f .asserting))) 1 0) (f .changes) f
 

@@ -3,7 +3,7 @@
 use Prim.Native.Nat.{ℕ, _+_, _≤_, _<_}
 use mathlib.Core.Path.{_≡_}
 use mathlib.Core.Logic.{_⊎_}
-use mathlib.Core.List.{List}
+use mathlib.Core.List.{List, [], _∷_}
 use mathlib.Core.Bool.{true}
 use lib.IntN.{ℤ}
 use Rattle.whole.specs.Exactly.{Exactly}
@@ -13,10 +13,10 @@ use Rattle.differential.specs.declared.change.Changes.{Changes}
 use Rattle.findings.specs.declared.Findings.{Findings}
 use Rattle.findings.specs.DecisionRecord.{trip}
 use Rattle.decision.specs.Decision.{findings}
-use Rattle.claims.specs.Bits.{isSet}
+use Rattle.claims.specs.Bits.{isSet, AnyOf}
 use Rattle.claims.specs.Alike.{SameBut, recordWith}
 use Rattle.claims.specs.Decisions.{Decision}
-use Rattle.claims.specs.Demand2.{ChangesAt, byte}
+use Rattle.claims.specs.Demand2.{ChangesAt, TripsForward, TripsBalanced, byte}
 
 -- "Prove that one such number exists for each window and that it is the one written": it, and no other.
 abbrev pub OneChange : Type 0
@@ -28,12 +28,20 @@ abbrev pub SameStory : Type 0
 SameStory =
     (s : List ℕ) (w : List ℤ) (out d : List ℕ) → Decision s w out d → (p : ℕ) → p < 3 → Exactly (isSet p (byte d 1) ≡ true) (slope s ≤ byte d (5 + p))
 
--- "how far off can the slope be?" Let t be a record with another slope, and e the decision by it on the same window. Which phases operate in e
--- is read from d alone; and but for bytes 0 and 1 the two are the same.
-abbrev pub HowFarOff : Type 0
-HowFarOff =
-    (s t : List ℕ) (w : List ℤ) (out d e : List ℕ) → SameBut slopeRow s t → Decision s w out d → Decision t w out e
-    → ((p : ℕ) → p < 3 → Exactly (isSet p (byte e 1) ≡ true) (slope t ≤ byte d (5 + p))) × ((k : ℕ) → 2 ≤ k → byte d k ≡ byte e k)
+-- "how far off can the slope be?" Let t be a record with another slope, and e the decision by it on the same window. What e says is read from
+-- d, which was made by s.
+pub record HowFarOff (s t : List ℕ) (w : List ℤ) (d e : List ℕ) : Type 0 where
+  -- which phases operate
+  pub phases : (p : ℕ) → p < 3 → Exactly (isSet p (byte e 1) ≡ true) (slope t ≤ byte d (5 + p))
+  -- whether it trips: by a phase, or by distance, which the slope does not touch
+  pub trips :
+      Exactly (byte e 0 ≡ 1) (AnyOf ((slope t ≤ byte d 5) ∷ (slope t ≤ byte d 6) ∷ (slope t ≤ byte d 7) ∷ []) ⊎ (TripsForward s w ⊎ TripsBalanced s w))
+  -- and the other bytes are the same
+  pub others : (k : ℕ) → 2 ≤ k → byte d k ≡ byte e k
+
+abbrev pub AtAnotherSlope : Type 0
+AtAnotherSlope =
+    (s t : List ℕ) (w : List ℤ) (out d e : List ℕ) → SameBut slopeRow s t → Decision s w out d → Decision t w out e → HowFarOff s t w d e
 
 -- ---- what it does not move
 

@@ -1,5 +1,5 @@
--- Demand 3 (document 01, "Percentage differential") about the decision itself: bit p of its byte 1, for every window that was accepted, with
--- N, K and the pickup of the record r in force. x gives "the unrounded sums A and B" of each end in the phase.
+-- Demand 3 (document 01, "Percentage differential") about the decision itself: bit p of its byte 1, and c of the phase, for every window that
+-- was accepted, with N, K and the pickup of the record r in force. x gives "the unrounded sums A and B" of each end in the phase.
 use Prim.Native.Nat.{ℕ, _+_, _*_, _≤_, _<_}
 use mathlib.Core.Path.{_≡_}
 use mathlib.Core.Bool.{true}

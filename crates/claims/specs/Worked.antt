@@ -139,7 +139,7 @@ changing =
     ∷ p10 1 50 (0 ∷ 0 ∷ 0 ∷ 0 ∷ 0 ∷ 0 ∷ 49 ∷ 0 ∷ [])
     -- the pickup is not reached
     ∷ p10 61 15 (0 ∷ 0 ∷ 0 ∷ 0 ∷ 0 ∷ 0 ∷ 0 ∷ 0 ∷ [])
-    -- the most there is, at both of its slopes and with two pickups
+    -- the most there is, on both sides of its change and at its largest pickup; and one more, which is not reached
     ∷ p11 1 99 (1 ∷ 4 ∷ 0 ∷ 0 ∷ 0 ∷ 0 ∷ 0 ∷ 99 ∷ [])
     ∷ p11 1 100 (0 ∷ 0 ∷ 0 ∷ 0 ∷ 0 ∷ 0 ∷ 0 ∷ 99 ∷ [])
     ∷ p11 2 1 (1 ∷ 4 ∷ 0 ∷ 0 ∷ 0 ∷ 0 ∷ 0 ∷ 99 ∷ [])

@@ -19,7 +19,7 @@ use Rattle.claims.specs.Feeding.{FirmwareHears, HearsByEvents, HearsOverHistori
 use Rattle.claims.specs.Demand2.{Demand2}
 use Rattle.claims.specs.SecondZone.{SecondZoneHasFirst, OtherBytesStay, RecordsFromBefore}
 use Rattle.claims.specs.Balanced.{BalancedFault, BetweenLimits, NoVoltage, ElseAsBefore}
-use Rattle.claims.specs.Change.{OneChange, SameStory, HowFarOff, ChangeMovesThree}
+use Rattle.claims.specs.Change.{OneChange, SameStory, AtAnotherSlope, ChangeMovesThree}
 use Rattle.claims.specs.Demand3.{Demand3First, Demand3Second, Demand3OfChange, TripHasReason, FaultTrips, ThroughDoesNot, ThroughIsQuiet}
 use Rattle.claims.specs.WhichRule.{WhichRule, WhichRuleOverHistories, WhichRuleByFeeding, WhichRuleByEvents, WhichRecord, WhichRecordOverHistories, SaidTwiceReadsBack, SaidTwiceDecides, SaidTwiceDecidesByFeeding}
 use Rattle.claims.specs.HandChecks.{HandChecks}
@@ -124,7 +124,7 @@ pub record Gorsepetal : Type 1 where
   -- the slope at which it changes: "how far off can the slope be?"; and what it does not move
   pub one-change : OneChange
   pub same-story : SameStory
-  pub how-far-off : HowFarOff
+  pub at-another-slope : AtAnotherSlope
   pub change-moves-three : ChangeMovesThree
   -- demand 3: how far rounding can move the decision
   pub demand-3-first : Demand3First
