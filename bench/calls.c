@@ -35,6 +35,7 @@ static void compare(long windows) {
   same_refusals();
   same_zones();
   same_balanced();
+  same_changes();
   same_events();
   for_each_window(same_window);
   for (long n = 0; n < windows; n++)
@@ -127,6 +128,7 @@ int main(int arguments, char **words) {
   if (same_only) return 0;
   instruction_tables();
   second_zone_tables();
+  change_tables();
   event_tables();
   time_tables();
   stack_table(windows);

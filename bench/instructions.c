@@ -190,8 +190,9 @@ void extent_tables(long windows) {
     print_extents(DECIDE, zone, decide[zone]);
     print_extents(FEED, zone, feed[zone]);
   }
-  printf("\nThe count is bounded: a loop turns once for each end, phase, frame, sample or byte of a record. Only the root calls\n");
-  printf("itself, once for each bit of it: at most 26 calls with the first. The value of a sample decides how many, and besides\n");
-  printf("some short branches: the pickups, the sign of m and what trips. Whether the second zone is on is decided by the record.\n");
+  printf("\nThe count is bounded: a loop turns once for each end, phase, frame, sample or byte of a record, and at most seven times\n");
+  printf("for the slope at which a phase changes. Only the root calls itself, once for each bit of it: at most 26 calls with the\n");
+  printf("first. The value of a sample decides how many, and besides some short branches: the pickups, the slopes that are tried,\n");
+  printf("the sign of m and what trips. Whether the second zone is on is decided by the record.\n");
   printf("A missing sample adds a search over the samples, after which the call ends.\n");
 }

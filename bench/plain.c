@@ -1,7 +1,7 @@
 /*
-** Document 01, feeding, the second zone, balanced faults and event files, as one would write them in C: tables, 64-bit sums, one quantity
-** after another. It is the measure for the library's speed and nothing else: its answers are compared with the library's before anything
-** is counted.
+** Document 01, feeding, the second zone, balanced faults, event files and the slope at which a phase changes, as one would write them in C:
+** tables, 64-bit sums, one quantity after another. It is the measure for the library's speed and nothing else: its answers are compared
+** with the library's before anything is counted.
 **
 ** It is compiled six times, each time under the name PLAIN: at -O2 and at -O3, and with one of three roots. By itself the root is a
 ** whole-number one, a bit of the result a turn, beginning at the highest bit there is. DOUBLE_ROOT takes the processor's square root of a
@@ -239,8 +239,23 @@ static uint64_t root_up(uint64_t x) {
   return root * root < x ? root + 1 : root;
 }
 
-/* The phases that operate; the restraints U and the magnitudes of the differential go to the decision, three words each. */
-static int differential(const uint8_t *r, phasor currents[PHASES][MOST_ENDS], uint8_t *restraints, uint8_t *magnitudes) {
+static int operates(uint64_t slope, uint64_t pickup, uint64_t square, uint64_t restraint) {
+  uint64_t restrained = slope * restraint;
+  return square >= pickup * pickup && 40960000 * square > restrained * restrained;
+}
+
+/* The slope at which a phase changes: the largest at which it operates, or 0 if there is none. It is 99 at most, since at 100 no phase
+** operates, so seven bits are tried, the highest first. */
+static uint64_t slope_of_change(uint64_t pickup, uint64_t square, uint64_t restraint) {
+  uint64_t c = 0;
+  for (uint64_t bit = 64; bit > 0; bit /= 2)
+    if (operates(c + bit, pickup, square, restraint)) c += bit;
+  return c;
+}
+
+/* The phases that operate. To the decision go the slopes of change, a byte each, and the restraints U and the magnitudes of the
+** differential, a word each. */
+static int differential(const uint8_t *r, phasor currents[PHASES][MOST_ENDS], uint8_t *changes, uint8_t *restraints, uint8_t *magnitudes) {
   size_t ends = ends_of(r);
   uint64_t slope = (uint64_t)unsigned_at(r, 2), pickup = (uint64_t)unsigned_at(r, 4);
   int bits = 0;
@@ -252,8 +267,9 @@ static int differential(const uint8_t *r, phasor currents[PHASES][MOST_ENDS], ui
       sum = plus(sum, i);
       restraint += root_up(4096 * (uint64_t)dot(i, i));
     }
-    uint64_t square = (uint64_t)dot(sum, sum), restrained = slope * restraint;
-    if (square >= pickup * pickup && 40960000 * square > restrained * restrained) bits |= 1 << p;
+    uint64_t square = (uint64_t)dot(sum, sum);
+    if (operates(slope, pickup, square, restraint)) bits |= 1 << p;
+    changes[p] = (uint8_t)slope_of_change(pickup, square, restraint);
     put_word(restraints + 4 * p, restraint);
     put_word(magnitudes + 4 * p, root_down(4096 * square));
   }
@@ -279,7 +295,7 @@ static void decision(const uint8_t *r, const int16_t *window, uint8_t *out) {
     for (size_t e = 0; e < ends; e++) currents[p][e] = measure(window, channels, PHASES + PHASES * e + p);
     local[p] = currents[p][0];
   }
-  int phases = differential(r, currents, out + 8, out + 20);
+  int phases = differential(r, currents, out + 5, out + 8, out + 20);
   negative_sequence found = direction(r, v, local);
   zones asserting = loops(r, v, local);
   out[0] = phases != 0 || distance(found, asserting.first);
@@ -287,7 +303,6 @@ static void decision(const uint8_t *r, const int16_t *window, uint8_t *out) {
   out[2] = (uint8_t)asserting.first;
   out[3] = (uint8_t)found.way;
   out[4] = (uint8_t)asserting.second;
-  memset(out + 5, 0, 3);
 }
 
 /* The answer of decide and of feed on a window of samples, upper byte first. It is written out in both, which at -O3 makes the

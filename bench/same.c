@@ -231,6 +231,21 @@ void same_balanced(void) {
       }
 }
 
+/* The two slopes about each c, and pickups about the differentials of the phases, which are 20 c + 10, 20 c + 20 and 20 c + 2 counts. */
+void same_changes(void) {
+  static const int beside[] = {1, 2, 3, 10, 11, 20, 21};
+  for (int ends = FEWEST_ENDS; ends <= MOST_ENDS; ends++)
+    for (int c = 0; c < 100; c++)
+      for (int slope = c; slope <= c + 1; slope++)
+        for (size_t k = 0; k < sizeof beside / sizeof *beside; k++) {
+          lent slices;
+          lend_change(&slices, ends, c);
+          put(slices.state, GORSEPETAL_AT_SLOPE, slope); /* 0 is refused */
+          put(slices.state, GORSEPETAL_AT_PICKUP, 20 * c + beside[k]);
+          same_decided(&slices);
+        }
+}
+
 void print_compared(void) {
   long calls = counts_given;
   for (int number = 0; number <= GORSEPETAL_NO_RELAY; number++) calls += answered[number];

@@ -19,6 +19,9 @@ void same_zones(void);
 /* The same for balanced faults, with a 3I2 about its pickup. */
 void same_balanced(void);
 
+/* The same for every slope at which a phase can change, with slopes and pickups about it. */
+void same_changes(void);
+
 /* The same for event files: every refusal, readers of all kinds, damaged ones too, and records cut at each place. */
 void same_events(void);
 

@@ -1,4 +1,5 @@
-/* What the compared calls showed of the second zone, of balanced faults and of event files, counted. */
+/* What the compared calls showed of the second zone, of balanced faults, of the slopes at which the phases change and of event files,
+** counted. */
 #include <stdio.h>
 #include <stdlib.h>
 #include <string.h>
@@ -6,9 +7,9 @@
 #include "event_calls.h"
 #include "seen.h"
 
-enum { LOOPS = 6, PHASE_LOOPS = GORSEPETAL_LOOP_AB + GORSEPETAL_LOOP_BC + GORSEPETAL_LOOP_CA };
+enum { PHASES = 3, SLOPES = 100, LOOPS = 6, PHASE_LOOPS = GORSEPETAL_LOOP_AB + GORSEPETAL_LOOP_BC + GORSEPETAL_LOOP_CA };
 
-/* Of the second zone, then of balanced faults, then of event files. */
+/* Of the second zone, then of balanced faults, then of the slopes at which the phases change, then of event files. */
 enum {
   ALONE, /* one for each loop, from AG on */
   OFF_BESIDE_FIRST = ALONE + LOOPS,
@@ -37,6 +38,18 @@ enum {
   WITHOUT, /* one for each phase loop, from AB on */
   SECOND_ZONE_ALONE = WITHOUT + 3,
   NO_LOOP_BEHIND,
+  OF_CHANGES,
+  OPERATING = OF_CHANGES, /* one for each phase, from a on */
+  AT_C = OPERATING + PHASES,
+  ABOVE_C,
+  DIFFERENT_C,
+  THREE_DIFFERENT,
+  LARGEST_C,
+  LARGEST_C_AT_100,
+  SMALLEST_C,
+  NO_C_BY_SLOPE,
+  NO_C_BY_PICKUP,
+  C_AT_THE_PICKUP,
   OF_EVENT_FILES,
   OPENED = OF_EVENT_FILES,
   OPEN_REFUSED,
@@ -104,6 +117,19 @@ static const char *const kinds[KINDS] = {
     [WITHOUT + 2] = "3I2 of 0, AB and BC but not CA, no trip",
     [SECOND_ZONE_ALONE] = "3I2 of 0, all in the second zone alone, no trip",
     [NO_LOOP_BEHIND] = "3I2 of 0, behind the relay, no loop at 2000",
+    [OPERATING] = "phase a operates",
+    [OPERATING + 1] = "phase b operates",
+    [OPERATING + 2] = "phase c operates",
+    [AT_C] = "c is the slope, and the phase operates",
+    [ABOVE_C] = "c is one below the slope, and it does not",
+    [DIFFERENT_C] = "different c, of 100",
+    [THREE_DIFFERENT] = "three different c at once, and none is 0",
+    [LARGEST_C] = "c of 99",
+    [LARGEST_C_AT_100] = "the same, at slope 100",
+    [SMALLEST_C] = "c of 1",
+    [NO_C_BY_SLOPE] = "c of 0, and the pickup is reached",
+    [NO_C_BY_PICKUP] = "c of 0 below the pickup, with some differential",
+    [C_AT_THE_PICKUP] = "a differential at its pickup, and c above 0",
     [OPENED] = "a file opened",
     [OPEN_REFUSED] = "open refused 13",
     [READER_OF_OTHER_LENGTH] = "a reader of another length",
@@ -168,6 +194,30 @@ static void see_phase_loops(const uint8_t *decision) {
   seen[REVERSE_NO_TRIP] += way == GORSEPETAL_DIRECTION_REVERSE && trip == 0;
 }
 
+/* The differential is the root of 4096 s, so s is at least the square of the pickup exactly if it is at least 64 times the pickup. */
+static void see_change(const uint8_t *record, const uint8_t *decision, int phase) {
+  static long times[SLOPES];
+  int slope = field(record, GORSEPETAL_AT_SLOPE), c = decision[GORSEPETAL_DECISION_AT_CHANGE_A + phase];
+  int operates = decision[GORSEPETAL_DECISION_AT_PHASES] >> phase & 1, word = GORSEPETAL_DECISION_AT_DIFFERENTIAL_A + 4 * phase;
+  long differential = 65536L * field(decision, word) + field(decision, word + 2), pickup = 64L * field(record, GORSEPETAL_AT_PICKUP);
+  seen[OPERATING + phase] += operates;
+  seen[AT_C] += slope == c && operates;
+  seen[ABOVE_C] += slope == c + 1 && c > 0 && !operates;
+  seen[DIFFERENT_C] += c < SLOPES && times[c]++ == 0;
+  seen[LARGEST_C] += c == SLOPES - 1;
+  seen[LARGEST_C_AT_100] += c == SLOPES - 1 && slope == SLOPES && !operates;
+  seen[SMALLEST_C] += c == 1;
+  seen[NO_C_BY_SLOPE] += c == 0 && differential >= pickup;
+  seen[NO_C_BY_PICKUP] += c == 0 && 0 < differential && differential < pickup;
+  seen[C_AT_THE_PICKUP] += c > 0 && differential == pickup;
+}
+
+static void see_changes(const uint8_t *record, const uint8_t *decision) {
+  const uint8_t *c = decision + GORSEPETAL_DECISION_AT_CHANGE_A;
+  for (int phase = 0; phase < PHASES; phase++) see_change(record, decision, phase);
+  seen[THREE_DIFFERENT] += c[0] != c[1] && c[1] != c[2] && c[2] != c[0] && c[0] != 0 && c[1] != 0 && c[2] != 0;
+}
+
 /* Whether decide was lent this fault. */
 static int was_lent(const lent *left, balanced_fault fault, int i2) {
   lent made;
@@ -193,6 +243,7 @@ static void see_balanced(const lent *left) {
 static void see_decision(which_call call, const lent *left) {
   see_second_zone(left->state, left->out);
   see_phase_loops(left->out);
+  see_changes(left->state, left->out);
   if (call == DECIDE) see_balanced(left);
 }
 
@@ -282,7 +333,9 @@ static int print_kinds(const char *of, int from, int to) {
 void print_seen(void) {
   printf("\nSeen in these calls\n");
   int never = print_kinds("The second zone:", 0, OF_BALANCED_FAULTS);
-  never += print_kinds("Balanced faults:", OF_BALANCED_FAULTS, OF_EVENT_FILES);
+  never += print_kinds("Balanced faults:", OF_BALANCED_FAULTS, OF_CHANGES);
+  never += print_kinds("The slopes at which the phases change:", OF_CHANGES, OF_EVENT_FILES);
+  never += SLOPES - (int)seen[DIFFERENT_C];
   never += print_kinds("Event files:", OF_EVENT_FILES, KINDS);
   if (never == 0) return;
   printf("%d of them never: the comparison says nothing of that\n", never);

@@ -126,6 +126,13 @@ void lend_fault(lent *to, int ends) {
   for (int end = 1; end <= ends; end++) wave(to, current(end, 0), 0, -20000);
 }
 
+/* 5000 counts come in from every end, a quarter of a cycle late: 30000 of six ends. */
+void lend_three(lent *to, int ends) {
+  lend_dead(to, ends);
+  balanced(to, 0, 1000, 0);
+  for (int end = 1; end <= ends; end++) balanced(to, current(end, 0), 0, -5000);
+}
+
 /* Exactly this phasor, its parts up to 4095: one sample makes each of them, as in document 01's hand checks. */
 static void put_phasor(lent *to, int channel, int re, int im) {
   put_sample(to, 0, channel, 8 * re);
@@ -136,6 +143,15 @@ static void put_phasor(lent *to, int channel, int re, int im) {
 static void through(lent *to, int phase, int re, int im) {
   put_phasor(to, current(1, phase), re, im);
   put_phasor(to, current(2, phase), -re, -im);
+}
+
+void lend_change(lent *to, int ends, int c) {
+  const int half[PHASES] = {5 + 10 * c, 10 + 10 * c, 1 + 10 * c}; /* of the differential, in counts */
+  lend_dead(to, ends);
+  for (int phase = 0; phase < PHASES; phase++) {
+    put_phasor(to, current(1, phase), 1000 + half[phase], 0);
+    put_phasor(to, current(ends, phase), half[phase] - 1000, 0);
+  }
 }
 
 /* With phase 0, Va is 500, and Ia of -1000 j and Ib of -500 j flow through. */

@@ -15,6 +15,14 @@ void lend_quiet(lent *to, int ends);
 void lend_fault(lent *to, int ends);
 void lend_dead(lent *to, int ends);
 
+/* Decide, by that record: a fault of all three phases on the line, with currents into it from all ends. Every phase reaches the record's
+** pickup, and none would reach the largest that there is. */
+void lend_three(lent *to, int ends);
+
+/* Decide, by that record: each phase has 2000 counts in U, flowing in at end 1 and partly out at the last end, and changes at slope c, 0 to
+** 99. The differential is half a percent of U above c in phase a, c + 1 percent exactly in b, and a tenth of a percent above c in c. */
+void lend_change(lent *to, int ends, int c);
+
 /* Decide, by that record: loops that have their edge at a whole reach. With phase 0, AG asserts from a reach of 250 on, CA from 500 on and
 ** AB from 1000 on; with 1 and 2 by turn. Here the direction is reverse, and it is forward by limits above 500. No phase operates. */
 void lend_edge(lent *to, int ends, int phase);

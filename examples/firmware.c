@@ -47,6 +47,10 @@ static void decide(const char *step, const uint8_t *state, const uint8_t *window
          out[GORSEPETAL_DECISION_AT_LOOPS], out[GORSEPETAL_DECISION_AT_DIRECTION]);
   printf("  phase a: differential %d and restraint %d sixty-fourths of a count\n", word(out + GORSEPETAL_DECISION_AT_DIFFERENTIAL_A),
          word(out + GORSEPETAL_DECISION_AT_RESTRAINT_A));
+  if (out[GORSEPETAL_DECISION_AT_CHANGE_A] == 0)
+    printf("  phase a operates at no slope\n");
+  else
+    printf("  phase a operates up to slope %d\n", out[GORSEPETAL_DECISION_AT_CHANGE_A]);
 }
 
 int main(void) {

@@ -85,7 +85,8 @@ static void room_to_decide(void) {
 }
 
 /* 100 counts into the line at end 1, 40 out of it at end 2, on each phase in turn: U is 64 * 100 + 64 * 40 = 8960, s is
-** 60 * 60 = 3600, the root of 4096 * 3600 is 64 * 60 = 3840. 15 * 8960 is below 100 * 3840, and 50 * 8960 is not. */
+** 60 * 60 = 3600, the root of 4096 * 3600 is 64 * 60 = 3840. 15 * 8960 is below 100 * 3840, and 50 * 8960 is not. The phase changes
+** at 42, whatever the slope is: 42 * 8960 = 376320 is below 384000, and 43 * 8960 = 385280 is not. */
 static void paper_mill(void) {
   for (int slope = 15; slope <= 50; slope += 35)
     for (int phase = 0; phase < 3; phase++) {
@@ -97,6 +98,7 @@ static void paper_mill(void) {
       phasor(window, 6 + phase, -40, 0);
       wanted[0] = slope == 15;
       wanted[1] = slope == 15 ? (uint8_t)(1 << phase) : 0;
+      wanted[5 + phase] = 42;
       put(wanted, 8 + 4 * phase + 2, 8960);
       put(wanted, 20 + 4 * phase + 2, 3840);
       lend_state(record, zeros);
@@ -131,6 +133,7 @@ static void names_of_a_decision(void) {
   static const int loops[2][3] = {{GORSEPETAL_LOOP_BC, GORSEPETAL_LOOP_CA, GORSEPETAL_LOOP_AB},
                                   {GORSEPETAL_LOOP_AG, GORSEPETAL_LOOP_BG, GORSEPETAL_LOOP_CG}};
   static const int operating[] = {GORSEPETAL_PHASE_A, GORSEPETAL_PHASE_B, GORSEPETAL_PHASE_C};
+  static const int change[] = {GORSEPETAL_DECISION_AT_CHANGE_A, GORSEPETAL_DECISION_AT_CHANGE_B, GORSEPETAL_DECISION_AT_CHANGE_C};
   static const int restraint[] = {GORSEPETAL_DECISION_AT_RESTRAINT_A, GORSEPETAL_DECISION_AT_RESTRAINT_B,
                                   GORSEPETAL_DECISION_AT_RESTRAINT_C};
   static const int differential[] = {GORSEPETAL_DECISION_AT_DIFFERENTIAL_A, GORSEPETAL_DECISION_AT_DIFFERENTIAL_B,
@@ -149,9 +152,10 @@ static void names_of_a_decision(void) {
         check("phases", decided[GORSEPETAL_DECISION_AT_PHASES], 0);
       }
     memset(window, 0, WINDOW);
-    phasor(window, 3 + x, 1000, 0); /* at end 1 alone: 64000 sixty-fourths in U and in the differential */
+    phasor(window, 3 + x, 1000, 0); /* at end 1 alone: 64000 sixty-fourths in U and in the differential, which operates up to slope 99 */
     check("decide", decide(window, WINDOW, DECISION), GORSEPETAL_DONE);
     check("phase", decided[GORSEPETAL_DECISION_AT_PHASES], (uint64_t)operating[x]);
+    check("slope of change", decided[change[x]], 99);
     check("restraint", 256u * decided[restraint[x] + 2] + decided[restraint[x] + 3], 64000);
     check("differential", 256u * decided[differential[x] + 2] + decided[differential[x] + 3], 64000);
     check("direction", decided[GORSEPETAL_DECISION_AT_DIRECTION], GORSEPETAL_DIRECTION_NONE);

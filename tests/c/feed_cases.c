@@ -61,9 +61,10 @@ static void fresh_relay_fed(void) {
   keeps_nothing("in force, but out of range", zeros, FRAME, DECISION, GORSEPETAL_NO_SETTINGS);
 }
 
-/* The first frame has what decide_cases.c has in frame 0 of its window: with fifteen zero frames after it, it is the oldest, n = 0. */
+/* The first frame has what decide_cases.c has in frame 0 of its window: with fifteen zero frames after it, it is the oldest, n = 0. Phase a
+** changes at slope 42, as it is worked out there. */
 static void paper_mill_fed(void) {
-  uint8_t fault[FRAME] = {0}, record[RECORD], wanted[DECISION] = {1, 1};
+  uint8_t fault[FRAME] = {0}, record[RECORD], wanted[DECISION] = {1, 1, [GORSEPETAL_DECISION_AT_CHANGE_A] = 42};
   put(fault, 2 * 3, 8 * 100);
   put(fault, 2 * 6, 8 * -40);
   put(wanted, GORSEPETAL_DECISION_AT_RESTRAINT_A + 2, 8960);

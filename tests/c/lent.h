@@ -48,7 +48,7 @@ struct test_case {
   void (*run)(void);
 };
 extern const struct test_case entry_cases[], decide_cases[], feed_cases[], second_zone_cases[], root_cases[], balanced_cases[],
-    events_cases[], ended_cases[], written_cases[];
+    events_cases[], ended_cases[], written_cases[], change_cases[];
 
 /* Runs the cases of a table; gives back how many. */
 int run_cases(const struct test_case *cases);
