@@ -7,8 +7,8 @@ import random
 from itertools import chain, cycle
 from typing import Iterable, Iterator, NamedTuple
 
-from cases import (balanced, currents, hand_checks, roots, second_zone, trying,
-                   windows)
+from cases import (balanced, changes, currents, hand_checks, roots, second_zone,
+                   trying, windows)
 from cases.building import HIGH, LINE, LOW, any_line, record
 from cases.records import put
 from model.differential import slope
@@ -67,6 +67,9 @@ def once(some: Iterable[Chosen]) -> Iterator[Chosen]:
 
 
 def one_by_one() -> Iterator[Chosen]:
+    lines = cycle([LINE, LINE._replace(r2=HIGH[26])])
+    for found in chain(changes.each_slope(), changes.fixed()):
+        yield from tried(found, next(lines))
     yield from (Chosen(*found) for found in balanced.fixed())
     for label, on, numbers in chain(hand_checks.of_channel(), roots.fixed()):
         yield Chosen(label, record(on), numbers)
@@ -76,7 +79,6 @@ def one_by_one() -> Iterator[Chosen]:
                     for pair in reaches(Chosen(*found)))
     for label, on, numbers in second_zone.fixed():
         yield Chosen(label, record(on), numbers)
-    lines = cycle([LINE, LINE._replace(r2=HIGH[26])])
     for found in currents.fixed():
         yield from tried(found, next(lines))
 

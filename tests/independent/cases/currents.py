@@ -34,30 +34,31 @@ class Check(NamedTuple):
     phase: int          # that has the check's phasors
     operates: bool      # what document 01 gives for this phase
     U: Optional[int]    # and this, if it does
+    changes: list[int]  # c of document 02, CR 6, of each phase
 
 
 CHECKS = (
     # "P8: end phasors 100 and -40 (pickup 1 from here to P10): operates at
-    # K=15. P9: not at 50."
-    ('P8', (100, 0), (-40, 0), 15, 1, True, None),
-    ('P9', (100, 0), (-40, 0), 50, 1, False, None),
+    # K=15. P9: not at 50." 60 of 140 are 42.9 percent.
+    ('P8', (100, 0), (-40, 0), 15, 1, True, None, 42),
+    ('P9', (100, 0), (-40, 0), 50, 1, False, None, 42),
     # "P10: 90 and -30: not at 50 (equal); it does at 49."
-    ('P10', (90, 0), (-30, 0), 50, 1, False, None),
-    ('P10', (90, 0), (-30, 0), 49, 1, True, None),
+    ('P10', (90, 0), (-30, 0), 50, 1, False, None, 49),
+    ('P10', (90, 0), (-30, 0), 49, 1, True, None, 49),
     # "P11: (1,1) twice: U=182; operates at 99, not at 100 (pickup 1). Pickup
     # 2 passes, 3 does not."
-    ('P11', (1, 1), (1, 1), 99, 1, True, 182),
-    ('P11', (1, 1), (1, 1), 100, 1, False, 182),
-    ('P11', (1, 1), (1, 1), 99, 2, True, 182),
-    ('P11', (1, 1), (1, 1), 99, 3, False, 182),
+    ('P11', (1, 1), (1, 1), 99, 1, True, 182, 99),
+    ('P11', (1, 1), (1, 1), 100, 1, False, 182, 99),
+    ('P11', (1, 1), (1, 1), 99, 2, True, 182, 99),
+    ('P11', (1, 1), (1, 1), 99, 3, False, 182, 0),
 )
 
 
 def hand_checks() -> Iterator[Check]:
     """At the first and the last end, with nothing between. One other phase
-    has a current that passes through, the next one a fault fed from all
-    ends."""
-    for (name, first, last, K, pickup, operating, U), ends, turn in (
+    has a current that passes through, and operates at no slope. The next one
+    has a fault fed from all ends alike, equal at slope 100."""
+    for (name, first, last, K, pickup, operating, U, c), ends, turn in (
             itertools.product(CHECKS, ENDS, range(3))):
         between = ends - 2
         own = [first] + between * [ZERO] + [last]
@@ -66,7 +67,7 @@ def hand_checks() -> Iterator[Check]:
         by_phase = [[exact(value) for value in values]
                     for values in turned(turn, own, passing, fault)]
         yield Check(name, ends, of_phases(VOLTS, by_phase), K, pickup, turn,
-                    operating, U)
+                    operating, U, turned(turn, c, 0, 99))
 
 
 # ---- Quiet, one end, the largest -------------------------------------------

@@ -1,11 +1,11 @@
 """Document 01's hand checks as windows, with what a decision on each should
-show, one of document 02's second zone, which does not trip, and one of its
-balanced faults.
+show, one of document 02's second zone, which does not trip, one of its
+balanced faults, and those of the slope c at which a phase changes.
 
 checks() puts them to model/decision.py; windows() gives each window once, for
 an archive.
 """
-from itertools import product
+from itertools import chain, islice, product
 from typing import Iterator, NamedTuple
 
 from cases import currents, hand_checks
@@ -13,9 +13,11 @@ from cases.building import (ZERO, exact, exact_case, of_phases, record,
                             turned, window)
 from cases.trying import QUIET
 from model.decision import FORM, decision_record
+from model.differential import SLOPES
 
-NAMES = ('trip', 'phases', 'loops', 'direction', 'second zone', 'U of a',
-         'U of b', 'U of c', 'root of a', 'root of b', 'root of c')
+NAMES = ('trip', 'phases', 'loops', 'direction', 'second zone', 'change of a',
+         'change of b', 'change of c', 'U of a', 'U of b', 'U of c',
+         'root of a', 'root of b', 'root of c')
 
 
 class Check(NamedTuple):
@@ -70,11 +72,17 @@ def p7() -> Iterator[Check]:
         yield Check('P7', record(line), case.numbers, {'direction': towards})
 
 
+def changing(changes: list[int]) -> dict[str, int]:
+    """c of a, b and c."""
+    return {f'change of {letter}': c for letter, c in zip('abc', changes)}
+
+
 def p8_to_p11() -> Iterator[Check]:
     for check in currents.hand_checks():
         line, letter = hand_checks.LINE._replace(
             ends=check.ends), 'abc'[check.phase]
-        expected = {f'{letter} operates': int(check.operates)}
+        expected = {f'{letter} operates': int(check.operates),
+                    **changing(check.changes)}
         if check.U is not None:
             expected[f'U of {letter}'] = check.U
         yield Check(check.name, record(line, check.K, check.pickup),
@@ -121,6 +129,41 @@ def balanced() -> Iterator[Check]:
                         'direction': towards, 'second zone': second})
 
 
+# ---- The slope at which it changes -----------------------------------------
+
+# The two ends of a phase, the pickup, and c. The first is the paper mill's
+# fault: s is 60², U 64 times 140, and 6000 lies between 42 and 43 times 140.
+PAPER_MILL = [((100, 0), (-40, 0), pickup, c)
+              for pickup, c in ((60, 42), (1, 42), (61, 0))]
+P10 = [((90, 0), (-30, 0), 1, 49)]
+P11 = [((1, 1), (1, 1), pickup, c) for pickup, c in ((1, 99), (2, 99), (3, 0))]
+NOTHING = [(ZERO, ZERO, 1, 0)]
+
+
+def change(name: str, given: list, K: int) -> Iterator[Check]:
+    """On each phase in turn, with nothing on the others."""
+    for (first, last, pickup, c), phase in product(given, range(3)):
+        yield Check(f'{name}, pickup {pickup}, K={K}',
+                    record(hand_checks.LINE, K, pickup),
+                    on_phase(phase, [exact(first), exact(last)]),
+                    {'phases': (1, 2, 4)[phase] * (K <= c),
+                     **changing(turned(phase, c, 0, 0))})
+
+
+def paper_mill() -> Iterator[Check]:
+    """15 was said and 50 heard. This fault operates up to 42."""
+    for K in (15, 50):
+        yield from change('the paper mill', PAPER_MILL, K)
+
+
+def at_every_slope() -> Iterator[Check]:
+    """c is the same at each K, and a phase operates exactly from 1 to c."""
+    for K in SLOPES:
+        for name, given in (('the paper mill', PAPER_MILL), ('P10', P10),
+                            ('P11', P11), ('no current', NOTHING)):
+            yield from islice(change(name, given, K), 0, None, 3)   # phase a
+
+
 def all_of_them() -> Iterator[Check]:
     yield from p1_to_p6()
     yield from p7()
@@ -128,11 +171,14 @@ def all_of_them() -> Iterator[Check]:
     yield from p12_to_p14()
     yield from does_not_trip()
     yield from balanced()
+    yield from paper_mill()
+    yield next(change('no current', NOTHING, 15))
 
 
 def checks():
     """What is checked, what comes out, what should."""
-    for name, good, numbers, expected in all_of_them():
+    for name, good, numbers, expected in chain(all_of_them(),
+                                               at_every_slope()):
         found = decision(good, numbers)
         for what, number in expected.items():
             yield f'{name}, {what}', found[what], number

@@ -3,11 +3,11 @@ calls between, with missing samples, with pieces of every length."""
 from itertools import chain, cycle
 from typing import Iterator
 
-from cases import records
+from cases import changes, records
 from cases.building import ENDS, LARGEST, as_data
 from cases.event_files import (CLOSED, FILLED, GROUPS, File, amid, asked, at_work, by_bytes, closed, cut_at, file, handed, of_groups,
                                of_load, opened, read, reading, whole)
-from cases.frames import entered, faults, feeds, good, load, missing_at, steady, wave
+from cases.frames import entered, faults, feeds, frames, good, load, missing_at, steady, wave
 from cases.records import FRESH, ROOM
 from cases.steps import History
 from model.measuring import MISSING, channels
@@ -158,6 +158,15 @@ def not_ended() -> Iterator[History]:
 
 # ---- Samples ---------------------------------------------------------------
 
+def changing() -> Iterator[History]:
+    """Windows of changes.py one after another. Each is whole with every sixteenth record; its three phases have three different c."""
+    found = list(changes.every_change())
+    for ends in ENDS:
+        some = [one.numbers for one in found if one.ends == ends][::15]
+        given = file(ends, 0, [frame for window in some for frame in frames(window, ends)])
+        yield History(at_work(ends), whole(given, given.records), f'changing, {ends} ends', (CLOSED,))
+
+
 def samples() -> Iterator[History]:
     """Each channel missing, alone and with others; the largest numbers; numbers of which the mark's bytes are a part; faults."""
     for ends in ENDS:
@@ -200,4 +209,4 @@ def all_in_one() -> Iterator[History]:
 
 def fixed() -> Iterator[History]:
     return chain(cut_in_two(), cut_in_three(), single_bytes(), ended_inside(), every_status(), one_after_another(), side_by_side(),
-                 read_on(), between(), not_ended(), samples(), long_pieces(), all_in_one())
+                 read_on(), between(), not_ended(), changing(), samples(), long_pieces(), all_in_one())

@@ -1,13 +1,14 @@
 """The calls of feed that are compared, in their histories: the ones that CR 1
-to CR 4 of document 02 suggest, one by one.
+to CR 4 and CR 6 of document 02 suggest, one by one.
 
 Most are long runs through one relay. A state that no run would leave is lent
 as it is.
 """
-from itertools import chain, cycle, product
+from itertools import chain, cycle, islice, product
 from typing import Iterator
 
-from cases import balanced, decision_checks, records, roots, second_reach
+from cases import (balanced, changes, chosen, decision_checks, records, roots,
+                   second_reach)
 from cases.building import (ENDS, HIGH, LARGEST, LINE, as_data, largest,
                             record, window)
 from cases.decide_cases import ENOUGH, SMALL, repeated, strong
@@ -29,7 +30,7 @@ def room(size: int) -> bytes:
     return repeated(b'\x5a', size)
 
 
-# ---- Roots, and balanced faults --------------------------------------------
+# ---- Changes, roots, and balanced faults -----------------------------------
 
 def held_and_fed(label: str, entry: bytes, numbers: list[int]) -> History:
     """A window as a steady wave that the relay holds, and the frame with which
@@ -38,6 +39,14 @@ def held_and_fed(label: str, entry: bytes, numbers: list[int]) -> History:
     held = holding(FRAMES, steady(given, FRAMES, FRAMES - 1))
     return History(records.relay(entry, NOTHING, held), feeds(given[-1:]),
                    label)
+
+
+def of_changes() -> Iterator[History]:
+    """And for each N a window with every slope."""
+    for found in chain(changes.fixed(), islice(changes.each_slope(),
+                                               len(ENDS))):
+        for label, entry, numbers in chosen.tried(found):
+            yield held_and_fed(label, entry, numbers)
 
 
 def of_roots() -> Iterator[History]:
@@ -305,7 +314,7 @@ def counts() -> Iterator[History]:
 
 
 def fixed() -> Iterator[History]:
-    return chain(of_roots(), of_balanced(), faults_coming(), windows_fed(),
-                 extremes(), second_zone(), missing_passing(),
+    return chain(of_changes(), of_roots(), of_balanced(), faults_coming(),
+                 windows_fed(), extremes(), second_zone(), missing_passing(),
                  several_missing(), missing_at_first(), calls_between(),
                  refused_between(), order(), lengths(), stored(), counts())

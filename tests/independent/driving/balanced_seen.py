@@ -10,12 +10,12 @@ from typing import Iterator
 
 from cases.balanced_edges import BEHIND, ONE_OUT, sides
 from cases.building import ENDS, HIGH, LOW
-from driving.calls import Made, window
+from driving.calls import Made, at_slope_1, measured, window
 from driving.not_3i2 import OTHERS, other_numbers
 from driving.seen import against, all_of
 from model.differential import slope
 from model.measuring import (BITS, FORWARD, GROUND_LOOPS, NONE, PHASE_LOOPS, T,
-                             loop_bits, measure, numbers, squared)
+                             loop_bits, squared)
 from model.settings import IN_FORCE
 
 ALL = ' '.join(PHASE_LOOPS)
@@ -124,7 +124,7 @@ def of_decision(result: dict, decision: bytes,
 
 def shown(made: Made) -> Iterator[str]:
     record = made.state[IN_FORCE]
-    result = measure(record, numbers(window(made)))
+    result = measured(at_slope_1(record), window(made))
     for what in of_decision(result, made.wanted.other, slope(record).pickup):
         yield f'{made.step.call}: {what}'
 

@@ -1,8 +1,9 @@
 """The calls as the model makes them, in the driver's form, and what each should leave."""
+import functools
 from typing import NamedTuple, Optional
 
 from cases.steps import Step
-from model import decision, differential, events, feeding, settings
+from model import decision, differential, events, feeding, measuring, settings
 
 BEFORE, BEHIND = bytes(range(101, 118)), bytes(range(201, 218))  # odd in length, so that slices also begin at odd addresses
 # Each call: its letter, and the slices that it is lent.
@@ -72,6 +73,26 @@ def window(made):
     if made.step.call == 'decide':
         return made.step.samples
     return feeding.newest(made.wanted.state, differential.slope(made.state[settings.IN_FORCE]).ends)
+
+
+# What the model measures in that window. Several files look at it one after another, and often at several slopes, so the last ones are
+# kept.
+
+
+@functools.lru_cache(maxsize=8)
+def phases(samples, ends):
+    return differential.by_phase(measuring.numbers(samples), ends)
+
+
+def at_slope_1(record):
+    """The record with a slope and a differential pickup of 1. They have no part in what is measured below."""
+    return record[:2] + bytes([0, 1, 0, 1]) + record[6:]
+
+
+@functools.lru_cache(maxsize=8)
+def measured(record, samples):
+    """All but the differential, by a record at slope 1."""
+    return measuring.measure(record, measuring.numbers(samples))
 
 
 # In the driver's form

@@ -1,12 +1,13 @@
 """What decisions show: the sides of each rule, and what a little less or more
 of a setting would change; and what all of them together should."""
+import functools
 from itertools import product
 from typing import Iterator
 
 from driving import seen, sides
-from driving.calls import Made
-from model.differential import by_phase, slope
-from model.measuring import BITS, direction, loop_bits, measure, numbers
+from driving.calls import Made, at_slope_1, measured, phases
+from model.differential import slope
+from model.measuring import BITS, direction, loop_bits
 from model.settings import RECORD
 
 LIMITS = ('zf', 'zr', 'pickup')
@@ -40,22 +41,30 @@ def why(trip: int, phases: bool, loops: bool, second: bool,
 
 # ---- Of a call that decide answered with 0 or 4 ----------------------------
 
+# Often the same window is decided on at several slopes one after another.
+@functools.lru_cache(maxsize=8)
+def at_any_slope(record: bytes, samples: bytes) -> set[str]:
+    result = measured(record, samples)
+    found = seen.seen(result)
+    if result['missing'] is None:
+        found.update(close_loops(result), close_direction(result))
+    return found
+
+
 def of_line(made: Made) -> Iterator[str]:
     """All but the differential."""
-    result = measure(made.state[:RECORD], numbers(made.step.samples))
-    yield from seen.seen(result)
+    yield from at_any_slope(at_slope_1(made.state[:RECORD]),
+                            made.step.samples)
     if made.wanted.number == 0:
-        trip, phases, loops, towards, second = made.wanted.other[:5]
-        yield why(trip, phases > 0, loops > 0, second > 0, towards)
-        yield from close_loops(result)
-        yield from close_direction(result)
+        trip, operating, loops, towards, second = made.wanted.other[:5]
+        yield why(trip, operating > 0, loops > 0, second > 0, towards)
 
 
 def of_currents(made: Made) -> Iterator[str]:
     """The differential."""
     if made.wanted.number == 0:
         ends, *pair = slope(made.state[:RECORD])
-        yield from sides.shown(by_phase(numbers(made.step.samples), ends),
+        yield from sides.shown(phases(made.step.samples, ends),
                                [tuple(pair)])
 
 

@@ -1,24 +1,25 @@
 #!/usr/bin/env python3
 """Looks for a counterexample to demand 3 of document 01 in what decide says of
-a window.
+a window: at the slope in force by byte 1, and by bytes 5 to 7 at c, up to which
+document 02, CR 6, has a phase operate, and at c + 1.
 
 demand3.py [--count N] [--seed S] [--archive PATH]
 
 It takes N windows near the edge of the demand, the closest known among them,
 each with a record for every slope and pickup that is tried on it, and compares
 what comes back with model/decision.py. Then each phase is held against the
-half of the demand that could be wrong about it, for m = 1, 2, 3, 10, 1000 and
-one more by chance. The first difference ends it, and so does the first
+halves of the demand that could be wrong about it, for m = 1, 2, 3, 10, 1000
+and one more by chance. The first difference ends it, and so does the first
 counterexample.
 It fails at the end too if the search was blind: if no phase would have been a
 counterexample to a half with 131072 in place of 196608, or the closest known
 was not seen.
 """
-import functools
 import random
 import sys
 from itertools import chain, islice, product
 from pathlib import Path
+from typing import NamedTuple
 
 sys.dont_write_bytecode = True
 sys.path[0] = str(Path(__file__).resolve().parents[1])  # model, cases, driving
@@ -30,9 +31,8 @@ from cases.steps import History  # noqa: E402
 from driving import archive, calls  # noqa: E402
 from driving.sides import NAMES  # noqa: E402
 from model.decision import DECISION, FORM  # noqa: E402
-from model.differential import (F, H, L, by_phase, first_half,  # noqa: E402
+from model.differential import (F, H, L, first_half,  # noqa: E402
                                 second_half, slope)
-from model.measuring import numbers  # noqa: E402
 from model.settings import RECORD  # noqa: E402
 
 BATCH = 5000
@@ -79,42 +79,58 @@ FIRST = Half('first half, of phases that operate',
 # "If s >= pickup² and for some m, 100F >= K H + 19660800Nm, it operates."
 SECOND = Half('second half, of phases with s >= pickup² that do not operate',
               second_half, second_band, 155727)
+# Document 02, CR 6: "with all else equal the phase operates exactly for slopes
+# 1 to c". So what the first half says of K it says of c, and what the second
+# half rules out for a phase that does not operate, it rules out for c + 1.
+FIRST_AT_C = Half('first half at c, of phases with c above 0',
+                  FIRST.contradicted, first_band, FIRST.closest)
+SECOND_AT_C = Half('second half at c + 1, of phases with s >= pickup²',
+                   second_half, second_band, SECOND.closest)
+HALVES = (FIRST, SECOND, FIRST_AT_C, SECOND_AT_C)
 
 
 # ---- What the archive says -------------------------------------------------
 
+class Said(NamedTuple):
+    """What the archive says of a phase."""
+    operates: bool
+    c: int
+    U: int
+    root: int   # of 4096 s
+
+
 def said(made, got):
-    """Of each phase whether it operates, U and the root of 4096 s, by the
-    archive's own bytes."""
+    """Of each phase, by the archive's own bytes."""
     out = got[-len(calls.guarded(made.step.other)):][len(calls.BEFORE):]
-    _, bits, _, _, _, *six = FORM.unpack(out[:DECISION])
-    return [(bits & bit > 0, U, root)
-            for bit, U, root in zip((1, 2, 4), six[:3], six[3:], strict=True)]
+    _, bits, _, _, _, *nine = FORM.unpack(out[:DECISION])
+    return [Said(bits & bit > 0, *three) for bit, *three in zip(
+        (1, 2, 4), nine[:3], nine[3:6], nine[6:], strict=True)]
 
 
-def halves(operating, root, pickup):
-    """Those that could be wrong about a phase. s >= pickup² exactly when the
-    floor of the root of 4096 s is at least 64 times the pickup."""
-    if operating:
-        return [FIRST]
-    return [SECOND] if root >= 64 * pickup else []
+def halves(phase, K, pickup):
+    """Those that could be wrong about a phase, each with the slope. s >=
+    pickup² exactly when the floor of the root of 4096 s is at least 64 times
+    the pickup."""
+    if phase.operates:
+        yield FIRST, K
+    if phase.c > 0:
+        yield FIRST_AT_C, phase.c
+    if phase.root >= 64 * pickup:
+        yield SECOND_AT_C, phase.c + 1
+        if not phase.operates:
+            yield SECOND, K
 
 
-@functools.lru_cache(maxsize=8)
-def sums_by_phase(samples, ends):
-    return [phase.sums for phase in by_phase(numbers(samples), ends)]
-
-
-def contradiction(half, made, name, of_archive, sums, m):
+def contradiction(half, made, name, phase, sums, at, m):
     """The whole call and the numbers of the demand, for a person."""
     ends, K, pickup = slope(made.state[:RECORD])
-    operating, U, root = of_archive
     return (f'COUNTEREXAMPLE to demand 3 in {made.label}\n'
-            f'  {half.text}: phase {name}, {ends} ends, K={K}, '
+            f'  {half.text}: phase {name}, {ends} ends, at slope {at}, K={K}, '
             f'pickup {pickup}, m={m}\n'
             f'  state {made.state.hex()}\n'
             f'  samples {made.step.samples.hex()}\n'
-            f'  archive: operates: {operating}, U={U}, root of 4096 s {root}\n'
+            f'  archive: operates: {phase.operates}, c={phase.c}, '
+            f'U={phase.U}, root of 4096 s {phase.root}\n'
             f'  A and B of each end: {[tuple(pair) for pair in sums]}\n'
             f'  L={L(m, sums)}, H={H(m, sums)}, F={F(m, sums)}')
 
@@ -126,12 +142,11 @@ def hold(made, got, ms):
         return
     ends, K, pickup = slope(made.state[:RECORD])
     by_name = zip(NAMES, said(made, got),
-                  sums_by_phase(made.step.samples, ends), strict=True)
-    for name, of_archive, sums in by_name:
-        operating, _, root = of_archive
-        for half, m in product(halves(operating, root, pickup), ms):
-            if half.look(K, m, sums):
-                sys.exit(contradiction(half, made, name, of_archive, sums, m))
+                  calls.phases(made.step.samples, ends), strict=True)
+    for name, phase, (sums, *_) in by_name:
+        for (half, at), m in product(halves(phase, K, pickup), ms):
+            if half.look(at, m, sums):
+                sys.exit(contradiction(half, made, name, phase, sums, at, m))
 
 
 # ---- The search ------------------------------------------------------------
@@ -158,13 +173,13 @@ def main():
     archive.build(words.archive)
     rng, known = random.Random(words.seed), list(equalities.known())
     total = look_at(known, rng)
-    for half in (FIRST, SECOND):
+    for half in HALVES:
         half.with_too_little = 0    # the climb has to find its own
     near_edge = currents.near_edge(random.Random(words.seed))
     total += look_at(islice(near_edge, words.count - len(known)), rng)
-    for half in (FIRST, SECOND):
+    for half in HALVES:
         half.report()
-    archive.stop_at([*FIRST.blind(), *SECOND.blind()])
+    archive.stop_at([fault for half in HALVES for fault in half.blind()])
     print(f'demand 3: no counterexample in {words.count} windows near its '
           f'edge, {total} decides, seed {words.seed}')
 

@@ -134,6 +134,8 @@ def shown(made):
         yield from of_record(parts)
     if answer == 'decided':
         yield f'{ends} ends: decided, trip {made.wanted.other[0]}'
+        if len(set(made.wanted.other[5:8])) == 3:
+            yield f'{ends} ends: decided, three different c'
     yield from of_number(parts)
     yield from of_piece(parts, answer)
 
@@ -150,7 +152,7 @@ def wanted():
                     for count in GROUPS for at in range(1, size(ends, 16 * count)))
         yield from (f'{ends} ends, {has_status} status channels: the last piece begins after {at} bytes'
                     for has_status, status in (('without', 0), ('with', 1)) for at in range(size(ends, status)))
-        yield from (f'{ends} ends: decided, trip {trip}' for trip in (0, 1))
+        yield from (f'{ends} ends: decided, {what}' for what in ('trip 0', 'trip 1', 'three different c'))
         yield from (f'{ends} ends: channel {at} missing' for at in range(channels(ends)))
     yield from (f'{count} groups: {answer}' for count, answer in product(GROUPS, ('taken', 'decided', '12', '1', '9', '3', '10', '4')))
     yield from (f'number {name}' for name in WRONG)

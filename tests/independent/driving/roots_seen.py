@@ -11,11 +11,11 @@ from math import isqrt
 from typing import Iterator
 
 from cases.building import ENDS
-from driving.calls import Made, window
+from driving.calls import Made, phases, window
 from driving.seen import all_of
 from driving.sides import LARGEST, sizes
-from model.differential import Phase, by_phase, slope
-from model.measuring import numbers, squared
+from model.differential import Phase, slope
+from model.measuring import squared
 from model.settings import IN_FORCE
 
 # ---- How large they can be -------------------------------------------------
@@ -109,7 +109,7 @@ def of_phase(phase: Phase) -> Iterator[str]:
 
 def shown(made: Made) -> Iterator[str]:
     ends = slope(made.state[IN_FORCE]).ends
-    for phase in by_phase(numbers(window(made)), ends):
+    for phase in phases(window(made), ends):
         yield from (f'{made.step.call}: {what}' for what in of_phase(phase))
 
 

@@ -1,11 +1,12 @@
 """What the compared calls gave, and what all of them together should have given: every answer that documents 01 and 02 allow, every
 bit of a decision both ways, every side of a rule that a decision can show, every edge of the second reach by every call, and roots of
-every size and kind and all sides of a balanced fault by decide and by feed. What feeds should show beside is in fed_tally.py."""
+every size and kind, all sides of a balanced fault and every slope of change by decide and by feed. What feeds should show beside is in
+fed_tally.py."""
 from collections import Counter
 from itertools import product
 
 from cases.building import ENDS
-from driving import balanced_seen, decision_shown, reach_seen, roots_seen
+from driving import balanced_seen, changes_seen, decision_shown, reach_seen, roots_seen
 from model.measuring import BITS, channels, length, line
 from model.settings import ANSWERS, RECORD
 
@@ -13,7 +14,7 @@ from model.settings import ANSWERS, RECORD
 AT_0 = {'decide': (0, 1, 2, 3, 17), 'feed': (0, 1, 3, 9, 10, 17)}
 PHASES = {'a': 1, 'b': 2, 'c': 4}
 # What decide and feed should each show.
-OF_BOTH = {'roots by size and kind': roots_seen, 'sides of a balanced fault': balanced_seen}
+OF_BOTH = {'roots by size and kind': roots_seen, 'sides of a balanced fault': balanced_seen, 'slopes of change': changes_seen}
 
 
 def of_missing(call, ends, place):

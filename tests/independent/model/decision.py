@@ -1,5 +1,6 @@
 """The rules of document 01 for decide: what it refuses, in its order, and the
-decision record, with byte 4 and the trip of document 02, CR 2 and CR 4.
+decision record, with byte 4, the trip, and bytes 5 to 7 of document 02, CR 2,
+CR 4 and CR 6.
 
 Comments in quotes are the document's own sentences.
 """
@@ -7,7 +8,8 @@ import functools
 import struct
 from typing import NamedTuple, Optional
 
-from model.differential import by_phase, phases_operating
+from model.differential import (by_phase, phases_operating,
+                                slopes_of_change)
 from model.measuring import (BITS, FORWARD, PHASE_LOOPS, by_loop, channel,
                              direction, first_missing, length, line, negative,
                              numbers, phasor, reaches_pickup, zone_bits)
@@ -16,10 +18,10 @@ from model.settings import IN_FORCE, STATE, absent
 # ---- Decision record -------------------------------------------------------
 
 DECISION = 32   # its bytes
-# Bytes 0 to 3; CR 2: "Decision byte 4 becomes its six loop bits"; "4 to 7 |
-# zero", from 5; "U of a, b, c, 32-bit big-endian"; "floor of the root of 4096
-# s, for a, b, c, 32-bit".
-FORM = struct.Struct('>5B3x3I3I')
+# Bytes 0 to 3; CR 2: "Decision byte 4 becomes its six loop bits"; CR 6: "Each
+# phase gets a number c from 0 to 99, in decision bytes 5, 6 and 7"; "U of a,
+# b, c, 32-bit big-endian"; "floor of the root of 4096 s, for a, b, c, 32-bit".
+FORM = struct.Struct('>5B3B3I3I')
 assert FORM.size == DECISION
 
 
@@ -56,6 +58,7 @@ def decision_record(record: bytes, samples: list[int]) -> bytes:
     tripping = trip(operating, first, towards,
                     reaches_pickup(i2, given.pickup))
     return FORM.pack(tripping, operating, first, towards, second,
+                     *slopes_of_change(record, phases),
                      *(phase.U for phase in phases),
                      *(phase.differential for phase in phases))
 

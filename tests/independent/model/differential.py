@@ -1,5 +1,5 @@
 """The rules of document 01 for the percentage differential, in its order and
-words.
+words, with the slope c at which a phase changes of document 02, CR 6.
 
 All arithmetic is in whole numbers, roots too. Comments in quotes are the
 document's own sentences.
@@ -77,6 +77,23 @@ def operates(K: int, pickup: int, s: int, U: int) -> bool:
     return s >= fits(pickup**2) and left > right
 
 
+# "slope K, percent | 1 to 100"
+SLOPES = range(1, 100 + 1)
+
+
+# It is the same for every K in force, so the last ones are kept.
+@functools.lru_cache(maxsize=4096)
+def slope_of_change(pickup: int, s: int, U: int) -> int:
+    """The number c of a phase. Each slope is tried."""
+    # Document 02, CR 6: "Each phase gets a number c from 0 to 99, in decision
+    # bytes 5, 6 and 7: with all else equal the phase operates exactly for
+    # slopes 1 to c."
+    operating = [K for K in SLOPES if operates(K, pickup, s, U)]
+    c = len(operating)
+    assert operating == list(range(1, c + 1)) and c <= 99
+    return c
+
+
 # Demand 3, whose numbers have no largest.
 #
 # "Demand 3 in whole numbers, over the unrounded sums A and B of each end in
@@ -152,12 +169,18 @@ def of_ends(samples: list[list[int]]) -> Phase:
                  differential=differential(squared_sum))
 
 
-def by_phase(numbers: list[int], ends: int) -> list[Phase]:
-    """The phases a, b, c."""
+@functools.lru_cache(maxsize=64)
+def of_window(numbers: tuple[int, ...], ends: int) -> tuple[Phase, ...]:
     # "each with Va, Vb, Vc, then Ia, Ib, Ic of end 1 (the local end), then of
     # end 2, up to end N"
-    return [of_ends([channel(numbers, ends, 3 + 3 * end + phase)
-                     for end in range(ends)]) for phase in range(3)]
+    return tuple(of_ends([channel(numbers, ends, 3 + 3 * end + phase)
+                          for end in range(ends)]) for phase in range(3))
+
+
+def by_phase(numbers: list[int], ends: int) -> list[Phase]:
+    """The phases a, b, c. They are the same at every slope, so the last ones
+    are kept."""
+    return list(of_window(tuple(numbers), ends))
 
 
 def phases_operating(record: bytes, phases: list[Phase]) -> int:
@@ -166,3 +189,13 @@ def phases_operating(record: bytes, phases: list[Phase]) -> int:
     # "phases a=1, b=2, c=4"
     return sum(bit for bit, phase in zip((1, 2, 4), phases)
                if operates(K, pickup, phase.s, phase.U))
+
+
+def slopes_of_change(record: bytes, phases: list[Phase]) -> list[int]:
+    """Bytes 5, 6 and 7 of the decision: c of a, b and c."""
+    _, K, pickup = slope(record)
+    found = [slope_of_change(pickup, phase.s, phase.U) for phase in phases]
+    # So a phase operates at K in force exactly if that is at most its c.
+    assert phases_operating(record, phases) == sum(
+        bit for bit, c in zip((1, 2, 4), found) if K <= c)
+    return found

@@ -21,7 +21,7 @@ def windows(state: bytes, data: bytes) -> Iterator[str]:
                    f'at {decided.place}')
         else:
             # "the numbers after trip, diff, mho and dir are decision bytes 0
-            # to 3 in decimal". Of the second zone it prints nothing.
+            # to 3 in decimal". Of bytes 4 to 7 it prints nothing.
             trip, diff, mho, towards = decided.written[:4]
             yield (f'window {number} trip {trip} diff {diff} mho {mho} '
                    f'dir {towards}')
