@@ -120,7 +120,7 @@ def weights(path, name):
 
 
 def directions():
-    found = re.findall(r'^directionNumber (\w+) = (\d+)$', read(Path('crates/distance/specs/Direction.antt')), flags=re.MULTILINE)
+    found = re.findall(r'^directionNumber (\w+) = (\d+)$', read(Path('crates/direction/specs/Direction.antt')), flags=re.MULTILINE)
     return {f'DIRECTION_{name.upper()}': int(value) for name, value in found}
 
 

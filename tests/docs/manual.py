@@ -11,7 +11,7 @@ from header import (HEADER, answers, constants, decision_offsets, decision_parts
 from tree import blank, fault, faults, read
 
 TABLE = Path('crates/settings/specs/Table.antt')
-SEQUENCE = Path('crates/distance/specs/Sequence.antt')
+SEQUENCE = Path('crates/direction/specs/Sequence.antt')
 COLUMNS = 100
 COUNTS = {'events_wanted'}  # what gives back a count, and no answer of the table
 
@@ -287,7 +287,7 @@ def cosines():
 def check_rules():
     """The figures that the rules have are those of the source: each formula stands in the manual with the source's constants."""
     text = plain('RULES')
-    mho, scale = constants('distance', 'mho.rt'), constants('distance', 'sequence.rt')['SCALE']
+    mho, scale = constants('distance', 'mho.rt'), constants('direction', 'sequence.rt')['SCALE']
     differential, phasors = constants('differential'), constants('phasors')
     turn = re.findall(r'pos (\d+)', re.search(r'^a = .*$', read(SEQUENCE), flags=re.MULTILINE).group())
     wanted = [

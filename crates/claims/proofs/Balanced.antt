@@ -11,7 +11,7 @@ use Rattle.whole.specs.Bits.{bits}
 use Rattle.whole.specs.Exactly.{Exactly}
 use Rattle.settings.specs.Fields.{reach, secondReach}
 use Rattle.distance.specs.Constants.{replica, compensation}
-use Rattle.distance.specs.Direction.{reachesPickup}
+use Rattle.direction.specs.Direction.{reachesPickup}
 use Rattle.distance.specs.Mho.{loopBits}
 use Rattle.distance.proofs.Laws.{no-positive}
 use Rattle.findings.specs.declared.Findings.{Findings}

@@ -11,7 +11,7 @@ use lib.Seq.{getD-set-other}
 use Rattle.whole.specs.Exactly.{Exactly}
 use Rattle.settings.specs.Table.{slopeRow}
 use Rattle.settings.specs.Fields.{slope}
-use Rattle.distance.specs.Direction.{reachesPickup, directionOf}
+use Rattle.direction.specs.Direction.{reachesPickup, directionOf}
 use Rattle.differential.proofs.SlopeOfChange.{only-one}
 use Rattle.findings.specs.declared.Findings.{Findings}
 use Rattle.findings.specs.DecisionRecord.{decisionBytes}

@@ -18,16 +18,17 @@ use Rattle.claims.specs.Bits.{BitsTell, AllOf}
 use Rattle.claims.proofs.Bits.{Each, bits-tell, any-of, bits-most, behind-three, all-of}
 use Rattle.plane.specs.declared.Phasor.{Phasor}
 use Rattle.settings.specs.Fields.{ends, slope, pickup, reach, forwardLimit, reverseLimit, secondReach}
-use Rattle.distance.specs.declared.direction.Direction.{Direction}
-use Rattle.distance.specs.declared.direction.Direction.the-variants as direction
-use Rattle.distance.specs.Sequence.{negativeSequence}
+use Rattle.direction.specs.declared.Direction.{Direction}
+use Rattle.direction.specs.declared.Direction.the-variants as direction
+use Rattle.direction.specs.Sequence.{negativeSequence}
 use Rattle.distance.specs.Constants.{replica}
-use Rattle.distance.specs.Direction.{reachesPickup, directionOf, directionNumber}
+use Rattle.direction.specs.Direction.{reachesPickup, directionOf, directionNumber}
 use Rattle.distance.specs.declared.mho.Loop.{Loop}
 use Rattle.distance.specs.declared.mho.SixLoops.{SixLoops}
 use Rattle.distance.specs.Mho.{ratioOf, asserts, loopBits}
-use Rattle.distance.specs.Laws.{PickupReached}
-use Rattle.distance.proofs.Laws.{mho-rule, pickup-reached, below-pickup, forward-rule, reverse-rule}
+use Rattle.direction.specs.Laws.{PickupReached}
+use Rattle.direction.proofs.Laws.{pickup-reached, below-pickup, forward-rule, reverse-rule}
+use Rattle.distance.proofs.Laws.{mho-rule}
 use Rattle.differential.specs.Differential.{comparison, magnitude, operates, operatingBits, slopeOfChange}
 use Rattle.differential.proofs.Rule.{operates-rule}
 use Rattle.differential.proofs.SlopeOfChange.{changes, change-at-most-99}

@@ -23,8 +23,8 @@ use Rattle.differential.specs.Demand3.{band, NotBelow, Above, exactMagnitude, L
 use Rattle.differential.specs.Differential.{square, endRestraint, restraint, comparison, operates, operatingBits}
 use Rattle.differential.proofs.Rule.{operates-rule}
 use Rattle.differential.proofs.Bands.{first-at-any-rate, second-at-any-rate}
-use Rattle.distance.specs.Sequence.{turned, sequence}
-use Rattle.distance.specs.Direction.{reachesPickup, torque, sideOf, directionOf}
+use Rattle.direction.specs.Sequence.{turned, sequence}
+use Rattle.direction.specs.Direction.{reachesPickup, torque, sideOf, directionOf}
 use Rattle.distance.specs.Mho.{residual, kProduct, groundLoop, phaseLoop, loopsOf, mho, asserts, loopBits}
 use Rattle.decision.specs.Decision.{rateOf, findings, decisionLength, decision}
 use Rattle.claims.specs.Decisions.{Decision}

@@ -9,8 +9,8 @@ use Rattle.phasors.specs.Sums.{withSample, sumTo, phasorOf}
 use Rattle.phasors.specs.Grid.{total}
 use Rattle.settings.specs.Table.{settingsTable}
 use Rattle.settings.specs.Check.{checkedBy}
-use Rattle.distance.specs.Sequence.{sequence}
-use Rattle.distance.specs.Direction.{reachesPickup, torque, sideOf, directionOf}
+use Rattle.direction.specs.Sequence.{sequence}
+use Rattle.direction.specs.Direction.{reachesPickup, torque, sideOf, directionOf}
 use Rattle.distance.specs.Mho.{mho, asserts}
 use Rattle.differential.specs.Differential.{square, endRestraint, restraint, operates}
 use Rattle.claims.specs.HandChecks.{HandChecks}

@@ -20,7 +20,7 @@ use Rattle.settings.specs.Check.{holds, checkedBy, checked}
 use Rattle.settings.specs.Fields.{Keeps, reach, secondReach}
 use Rattle.settings.proofs.Good.{all-kept}
 use Rattle.distance.specs.declared.mho.Ratio.{Ratio}
-use Rattle.distance.specs.Direction.{reachesPickup, directionOf}
+use Rattle.direction.specs.Direction.{reachesPickup, directionOf}
 use Rattle.distance.specs.Mho.{asserts, loopBits}
 use Rattle.distance.proofs.Laws.{larger-reach}
 use Rattle.findings.specs.declared.Findings.{Findings}

@@ -6,8 +6,8 @@ use Rattle.whole.specs.Sum.{sumOf}
 use Rattle.plane.specs.Plane.{plus, minus, times, scaled, rounded, minusJ, dot, squaredMagnitude}
 use Rattle.phasors.specs.Sums.{withSample, sumTo, phasorOf}
 use Rattle.phasors.specs.Grid.{total}
-use Rattle.distance.specs.Sequence.{turned, sequence}
-use Rattle.distance.specs.Direction.{reachesPickup, torque, sideOf, directionOf}
+use Rattle.direction.specs.Sequence.{turned, sequence}
+use Rattle.direction.specs.Direction.{reachesPickup, torque, sideOf, directionOf}
 use Rattle.distance.specs.Mho.{residual, kProduct, groundLoop, phaseLoop, loopsOf, mho, asserts, loopBits}
 use Rattle.differential.specs.Differential.{square, endRestraint, restraint, operates, operatingBits, countedUp}
 use Rattle.decision.specs.Decision.{findings}

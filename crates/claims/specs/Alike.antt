@@ -5,7 +5,7 @@ use mathlib.Core.Path.{_≡_}
 use mathlib.Core.List.{List, _∷_, _++_}
 use lib.ListN.{getD}
 use Rattle.settings.specs.Table.{Rule, offsetOf}
-use Rattle.distance.specs.Direction.{directionNumber}
+use Rattle.direction.specs.Direction.{directionNumber}
 use Rattle.differential.specs.declared.change.Changes.{Changes}
 use Rattle.differential.specs.Differential.{magnitude}
 use Rattle.findings.specs.declared.Findings.{Findings}

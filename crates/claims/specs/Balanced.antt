@@ -9,8 +9,8 @@ use lib.IntN.{ℤ}
 use Rattle.whole.specs.Exactly.{Exactly}
 use Rattle.plane.specs.Plane.{zero}
 use Rattle.settings.specs.Fields.{reach}
-use Rattle.distance.specs.Sequence.{positiveSequence, negativeSequence}
-use Rattle.distance.specs.Laws.{PickupReached}
+use Rattle.direction.specs.Sequence.{positiveSequence, negativeSequence}
+use Rattle.direction.specs.Laws.{PickupReached}
 use Rattle.findings.specs.declared.Findings.{Findings}
 use Rattle.findings.specs.DecisionRecord.{any, isForward}
 use Rattle.decision.specs.Decision.{voltages, currentsOfEnd1, findings}

@@ -13,12 +13,13 @@ use Rattle.claims.specs.Bits.{BitsTell, AnyOf, AllOf}
 use Rattle.plane.specs.declared.Phasor.{Phasor}
 use Rattle.phasors.specs.Grid.{current}
 use Rattle.settings.specs.Fields.{ends, slope, pickup, reach, secondReach}
-use Rattle.distance.specs.Sequence.{negativeSequence}
+use Rattle.direction.specs.Sequence.{negativeSequence}
 use Rattle.distance.specs.Constants.{replica}
 use Rattle.distance.specs.declared.mho.Loop.{Loop}
 use Rattle.distance.specs.declared.mho.SixLoops.{SixLoops}
 use Rattle.distance.specs.Mho.{ratioOf}
-use Rattle.distance.specs.Laws.{WithinReach, PickupReached, BelowPickup, BelowForward, AboveReverse}
+use Rattle.direction.specs.Laws.{PickupReached, BelowPickup, BelowForward, AboveReverse}
+use Rattle.distance.specs.Laws.{WithinReach}
 use Rattle.differential.specs.Differential.{square, restraint, comparison}
 use Rattle.differential.specs.Laws.{OperatesBy, ExactlyUpTo}
 use Rattle.decision.specs.Decision.{decisionLength, rateOf, voltages, currentsOfEnd1, loopsAt}

@@ -17,12 +17,12 @@ use Rattle.settings.specs.Table.{offsetOf, forwardLimitRow, negativeSequencePic
 use Rattle.settings.specs.Check.{checked}
 use Rattle.settings.specs.Fields.{forwardLimit, negativeSequencePickup}
 use Rattle.settings.specs.Examples.{exampleRecord, changed}
-use Rattle.distance.specs.declared.direction.Direction.{Direction}
-use Rattle.distance.specs.declared.direction.Direction.the-variants.{None, Forward}
+use Rattle.direction.specs.declared.Direction.{Direction}
+use Rattle.direction.specs.declared.Direction.the-variants.{None, Forward}
 use Rattle.distance.specs.declared.mho.Loop.{Loop}
-use Rattle.distance.specs.Sequence.{negativeSequence}
-use Rattle.distance.specs.Constants.{angle}
-use Rattle.distance.specs.Direction.{reachesPickup, directionOf}
+use Rattle.direction.specs.Sequence.{negativeSequence}
+use Rattle.direction.specs.Direction.{angle}
+use Rattle.direction.specs.Direction.{reachesPickup, directionOf}
 use Rattle.distance.specs.Mho.{ratioOf, asserts}
 use Rattle.decision.specs.Decision.{rateOf}
 use Rattle.differential.specs.Differential.{restraint, comparison, operates}

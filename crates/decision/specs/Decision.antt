@@ -9,10 +9,10 @@ use Rattle.plane.specs.declared.Phases.{Phases}
 use Rattle.phasors.specs.Rate.{Rate, sixteen}
 use Rattle.phasors.specs.Grid.{voltagesOf, localCurrents, current}
 use Rattle.settings.specs.Fields.{ends, slope, pickup, reach, secondReach}
-use Rattle.distance.specs.declared.direction.Direction.{Direction}
-use Rattle.distance.specs.Sequence.{negativeSequence}
+use Rattle.direction.specs.declared.Direction.{Direction}
+use Rattle.direction.specs.Sequence.{negativeSequence}
 use Rattle.distance.specs.Constants.{replica, compensation}
-use Rattle.distance.specs.Direction.{reachesPickup, directionOf}
+use Rattle.direction.specs.Direction.{reachesPickup, directionOf}
 use Rattle.distance.specs.declared.mho.SixLoops.{SixLoops}
 use Rattle.distance.specs.Mho.{loopsOf, loopBits}
 use Rattle.differential.specs.declared.Comparisons.{Comparisons}

@@ -10,7 +10,7 @@ ghost use Rattle.differential.specs.Sizes.{AllSized};
 ghost use Rattle.decision.specs.Decide.{Decided};
 ghost use Rattle.decision.specs.Decision.{loopsAt, assertingBits, overreachingBits, unbalancedAt, directionAt, findings, decision};
 use answers::Answer;
-use distance::direction::Bearing;
+use direction::Bearing;
 use distance::mho::ZoneBits;
 use findings::Findings;
 use plane::Phases;
@@ -48,9 +48,9 @@ fn bearing(s: &[u8], v: Phases, i: Phases) -> Bearing
     requires { ⌜ Ranges (now s) × AllInside phasorSize v × AllInside phasorSize i ⌝ }
     ensures { λ r. ⌜ (r .unbalanced ≡ unbalancedAt (now (s .entry)) i) × (r .direction ≡ directionAt (now (s .entry)) v i) ⌝ }
 {
-    let v2 = distance::sequence::negative_sequence(v);
-    let i2 = distance::sequence::negative_sequence(i);
-    distance::direction::of_fault(s, v2, i2)
+    let v2 = direction::sequence::negative_sequence(v);
+    let i2 = direction::sequence::negative_sequence(i);
+    direction::of_fault(s, v2, i2)
 }
 
 // What is found in a window of the right length, by a good settings record.

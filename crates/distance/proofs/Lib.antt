@@ -1,4 +1,3 @@
--- How large the settings and the quantities of distance are, and the laws that a reader will look for.
+-- How large the settings and the quantities of the loops are, and the laws that a reader will look for.
 pub mod Sizes
-pub mod TwoFields
 pub mod Laws

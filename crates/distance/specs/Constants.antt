@@ -2,7 +2,7 @@
 use Prim.Native.Nat.{ℕ}
 use mathlib.Core.List.{List}
 use lib.IntN.{pos}
-use Rattle.settings.specs.Fields.{replicaReal, replicaImaginary, kReal, kImaginary, angleReal, angleImaginary}
+use Rattle.settings.specs.Fields.{replicaReal, replicaImaginary, kReal, kImaginary}
 use Rattle.plane.specs.declared.Phasor.{Phasor}
 
 -- Z, the replica impedance, thousandths
@@ -12,7 +12,3 @@ replica s = record { re = pos (replicaReal s); im = pos (replicaImaginary s) }
 -- k, thousandths
 abbrev pub compensation : List ℕ → Phasor
 compensation s = record { re = pos (kReal s); im = kImaginary s }
-
--- D, the line angle
-abbrev pub angle : List ℕ → Phasor
-angle s = record { re = pos (angleReal s); im = pos (angleImaginary s) }

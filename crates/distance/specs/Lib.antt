@@ -1,7 +1,5 @@
--- Document 01, "Sequence quantities and direction" and "Mho loops".
-pub mod Sequence
+-- Document 01, "Mho loops".
 pub mod Constants
-pub mod Direction
 pub mod Mho
 pub mod Laws
 pub mod Sizes

@@ -11,7 +11,7 @@ use Rattle.plane.specs.Plane.{plus, minus, times, rounded, minusJ, dot}
 use Rattle.distance.specs.declared.mho.Loop.{Loop}
 use Rattle.distance.specs.declared.mho.SixLoops.{SixLoops}
 use Rattle.distance.specs.declared.mho.Ratio.{Ratio}
-use Rattle.distance.specs.Sequence.{a, a², turned, positiveSequence}
+use Rattle.direction.specs.Sequence.{a, a², turned, positiveSequence}
 
 -- ---- the loops
 

@@ -5,22 +5,10 @@ use Rattle.whole.specs.Sizes.{Within}
 use Rattle.plane.specs.declared.Phasor.{Phasor}
 use Rattle.plane.specs.Sizes.{Inside}
 use Rattle.settings.specs.Table.{mostKReal, mostKImaginary}
+use Rattle.direction.specs.Sizes.{polarisingSize}
 use Rattle.distance.specs.declared.mho.Loop.{Loop}
 use Rattle.distance.specs.declared.mho.SixLoops.{SixLoops}
 use Rattle.distance.specs.declared.mho.Ratio.{Ratio}
-
--- the sequence quantities
-abbrev pub sequenceSize : ℕ
-sequenceSize = 160000
-
--- aP and a²P
-abbrev pub polarisingSize : ℕ
-polarisingSize = 220000
-
--- the factors a and a²
-pub record Turn (f : Phasor) : Type 0 where
-  pub real : Within 8192 (f .re)
-  pub imag : Within 14189 (f .im)
 
 -- k
 pub record Compensates (k : Phasor) : Type 0 where
@@ -33,10 +21,6 @@ residualSize = 126000
 
 abbrev pub kProductSize : ℕ
 kProductSize = 189000
-
--- |3I2|²
-abbrev pub squareSize : ℕ
-squareSize = 100000000000
 
 -- V and I of a loop
 abbrev pub loopVoltageSize : ℕ

@@ -1,9 +1,9 @@
 // The settings that describe the line, as complex numbers, each in the range that a good record gives it.
 ghost use mathlib.Core.Path.{_≡_};
 ghost use Rattle.plane.specs.Sizes.{Inside};
-ghost use Rattle.settings.specs.Table.{mostReplica, mostAngle};
+ghost use Rattle.settings.specs.Table.{mostReplica};
 ghost use Rattle.settings.specs.Fields.{Ranges};
-ghost use Rattle.distance.specs.Constants.{replica, compensation, angle};
+ghost use Rattle.distance.specs.Constants.{replica, compensation};
 ghost use Rattle.distance.specs.Sizes.{Compensates};
 use plane::Phasor;
 
@@ -24,15 +24,5 @@ pub fn compensation(s: &[u8]) -> Phasor
 {
     let re = settings::fields::k_real(s);
     let im = settings::fields::k_imaginary(s);
-    Phasor { re, im }
-}
-
-// D, the line angle.
-pub fn angle(s: &[u8]) -> Phasor
-    requires { ⌜ Ranges (now s) ⌝ }
-    ensures { λ r. ⌜ (r ≡ angle (now (s .entry))) × Inside mostAngle r ⌝ }
-{
-    let re = settings::fields::angle_real(s);
-    let im = settings::fields::angle_imaginary(s);
     Phasor { re, im }
 }

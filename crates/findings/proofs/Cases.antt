@@ -3,8 +3,8 @@ use Prim.Native.Nat.{ℕ}
 use mathlib.Core.Path.{_≡_, refl, sym, _∙_}
 use mathlib.Core.Bool.{Bool, true, false, _&&_, _||_}
 use borrow.Author.Tests.{ne-eqb}
-use Rattle.distance.specs.declared.direction.Direction.{Direction}
-use Rattle.distance.specs.declared.direction.Direction.the-variants.{None, Forward, Reverse}
+use Rattle.direction.specs.declared.Direction.{Direction}
+use Rattle.direction.specs.declared.Direction.the-variants.{None, Forward, Reverse}
 use Rattle.findings.specs.DecisionRecord.{any, isForward, balancedFault, trip}
 
 or-true : (b : Bool) → b || true ≡ true

@@ -3,9 +3,9 @@ use Prim.Native.Nat.{ℕ, _/_, _%_}
 use mathlib.Core.List.{List, [], _∷_, _++_}
 use mathlib.Core.Bool.{Bool, true, false, not, cond, _&&_, _||_}
 use lib.Dec.{eqb}
-use Rattle.distance.specs.declared.direction.Direction.{Direction}
-use Rattle.distance.specs.declared.direction.Direction.the-variants.{None, Forward, Reverse}
-use Rattle.distance.specs.Direction.{directionNumber}
+use Rattle.direction.specs.declared.Direction.{Direction}
+use Rattle.direction.specs.declared.Direction.the-variants.{None, Forward, Reverse}
+use Rattle.direction.specs.Direction.{directionNumber}
 use Rattle.differential.specs.Differential.{magnitude}
 use Rattle.findings.specs.declared.Findings.{Findings}
 

@@ -8,7 +8,7 @@ ghost use Rattle.differential.specs.Sizes.{AllSized};
 ghost use Rattle.findings.specs.DecisionRecord.{balancedFault, trip, word, decisionBytes};
 use differential::Comparisons;
 use differential::change::Changes;
-use distance::direction::Direction;
+use direction::Direction;
 
 // How many bytes a decision has.
 pub const LENGTH: usize = 32;
@@ -118,7 +118,7 @@ pub fn bytes(f: Findings) -> [u8; LENGTH]
         trip(f.operating, f.asserting, direction, f.unbalanced),
         f.operating,
         f.asserting,
-        distance::direction::number(direction),
+        direction::number(direction),
         f.overreaching,
         f.changes,
     );

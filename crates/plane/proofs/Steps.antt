@@ -11,7 +11,7 @@ use Rattle.whole.specs.Sizes.{Within}
 use Rattle.whole.proofs.Size.{add, sub, mul, fit, rd}
 use Rattle.whole.proofs.Machine.{Read}
 use Rattle.plane.specs.declared.Phasor.{Phasor}
-use Rattle.plane.specs.Sizes.{Inside}
+use Rattle.plane.specs.Sizes.{Inside, Multiply}
 
 -- an operation on u and v, which the machine has as x and y
 step :
@@ -63,3 +63,8 @@ products {op} {a} {b} o p q r s ta tb t =
     let first = product p q ta tb once in let second = product r s ta tb once in
     let both = step op (first .1) (second .1) (o .bound (mul p q) (mul r s)) t in
     record { first = first .0; second = second .0; both = both .0; is = both .1 }
+
+-- two factors within bounds of which the products fit
+pub multiply :
+    {a b : ℕ} {p q : Phasor} → Inside a p → Inside b q → T (ltb a (2 ^ 63)) → T (ltb b (2 ^ 63)) → T (ltb (a * b + a * b) (2 ^ 63)) → Multiply p q
+multiply {a} {b} h k ta tb t = record { p-most = a; q-most = b; p-inside = h; q-inside = k; p-fits = ta; q-fits = tb; both-fit = t }

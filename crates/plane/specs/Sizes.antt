@@ -1,5 +1,6 @@
 -- How large complex numbers get, so that nothing exceeds 64 bits, document 01's 42000 among it; and how long they are.
-use Prim.Native.Nat.{ℕ}
+use Prim.Native.Nat.{ℕ, _+_, _*_, _^_}
+use lib.Dec.{T, ltb}
 use lib.IntN.{ℤ, pos, _+ℤ_, _*ℤ_}
 use lib.Signed.{_≤ℤ_}
 use Rattle.whole.specs.Sizes.{Within}
@@ -11,7 +12,18 @@ pub record Inside (b : ℕ) (p : Phasor) : Type 0 where
   pub real : Within b (p .re)
   pub imag : Within b (p .im)
 
--- The same of all three phases.
+-- Two factors. It is their products that have to fit in 64 bits, and a sum or a difference of two products: one factor may be large where the
+-- other is small.
+pub record Multiply (p q : Phasor) : Type 0 where
+  pub p-most : ℕ
+  pub q-most : ℕ
+  pub p-inside : Inside p-most p
+  pub q-inside : Inside q-most q
+  pub p-fits : T (ltb p-most (2 ^ 63))
+  pub q-fits : T (ltb q-most (2 ^ 63))
+  pub both-fit : T (ltb (p-most * q-most + p-most * q-most) (2 ^ 63))
+
+-- All three phases.
 pub record AllInside (b : ℕ) (v : Phases) : Type 0 where
   pub inside-a : Inside b (v .a)
   pub inside-b : Inside b (v .b)

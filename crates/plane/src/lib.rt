@@ -5,7 +5,7 @@ ghost use lib.IntN.{pos, natAbs};
 ghost use lib.Signed.{_<ℤ_};
 ghost use Rattle.whole.specs.Sizes.{Within};
 ghost use Rattle.plane.specs.Plane.{plus, minus, times, scaled, rounded, dot, squared, squaredMagnitude, minusJ};
-ghost use Rattle.plane.specs.Sizes.{Inside};
+ghost use Rattle.plane.specs.Sizes.{Inside, Multiply};
 
 // A voltage or a current in counts, or any other complex number.
 pub struct Phasor {
@@ -42,7 +42,7 @@ pub fn minus(p: Phasor, q: Phasor) -> Phasor
 
 // p q.
 pub fn times(p: Phasor, q: Phasor) -> Phasor
-    requires { ⌜ Inside (2 ^ 30) p × Inside (2 ^ 30) q ⌝ }
+    requires { ⌜ Multiply p q ⌝ }
     ensures { λ r. ⌜ r ≡ times p q ⌝ }
 {
     let re = p.re * q.re - p.im * q.im;
@@ -52,7 +52,7 @@ pub fn times(p: Phasor, q: Phasor) -> Phasor
 
 // n p, for a whole number n.
 pub fn scaled(n: i64, p: Phasor) -> Phasor
-    requires { ⌜ Within (2 ^ 30) n × Inside (2 ^ 30) p ⌝ }
+    requires { ⌜ Within (2 ^ 20) n × Inside (2 ^ 42) p ⌝ }
     ensures { λ r. ⌜ r ≡ scaled n p ⌝ }
 {
     let re = n * p.re;
@@ -80,9 +80,9 @@ pub fn minus_j(p: Phasor) -> Phasor
     Phasor { re, im }
 }
 
-// Re(p q*). The first may be as large as an impedance times a current, the second as a voltage or as D times a current.
+// Re(p q*).
 pub fn dot(p: Phasor, q: Phasor) -> i64
-    requires { ⌜ Inside (10 ^ 10) p × Inside (4 * 10 ^ 8) q ⌝ }
+    requires { ⌜ Multiply p q ⌝ }
     ensures { λ r. ⌜ r ≡ dot p q ⌝ }
 {
     p.re * q.re + p.im * q.im

@@ -16,6 +16,7 @@ use Rattle.claims.proofs.WhichRule as which-rule
 use Rattle.claims.proofs.Settings as settings
 use Rattle.claims.proofs.WrongRelays as wrong-relays
 use Rattle.settings.proofs.Examples as examples
+use Rattle.direction.proofs.Laws as direction
 use Rattle.distance.proofs.Laws as distance
 use Rattle.differential.proofs.Laws as differential
 use Rattle.differential.proofs.SlopeOfChange as slope-of-change
@@ -154,10 +155,10 @@ gorsepetal = record {
   larger-reach = distance.larger-reach;
   no-polarising = distance.no-polarising;
   no-positive = distance.no-positive;
-  none-below-pickup = distance.none-below-pickup;
-  never-both = distance.never-both;
-  forward-rule = distance.forward-rule;
-  reverse-rule = distance.reverse-rule;
+  none-below-pickup = direction.none-below-pickup;
+  never-both = direction.never-both;
+  forward-rule = direction.forward-rule;
+  reverse-rule = direction.reverse-rule;
   operates-rule = rule.operates-rule;
   smaller-slope = differential.smaller-slope;
   none-at-100 = differential.none-at-100;

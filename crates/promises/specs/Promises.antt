@@ -2,7 +2,8 @@
 -- proofs/Promises.antt is its witness. That a call ends and keeps to what it was lent is what it means to be proved; the window program's lines
 -- are proved in `report`.
 use Rattle.settings.specs.Examples.{AsFound, ByOffset}
-use Rattle.distance.specs.Laws.{MhoRule, LargerReach, NoPolarising, NoPositive, NoneBelowPickup, NeverBoth, ForwardRule, ReverseRule}
+use Rattle.direction.specs.Laws.{NoneBelowPickup, NeverBoth, ForwardRule, ReverseRule}
+use Rattle.distance.specs.Laws.{MhoRule, LargerReach, NoPolarising, NoPositive}
 use Rattle.differential.specs.Laws.{OperatesRule, SmallerSlope, NoneAt100, NeverTooSmall, ZeroWindow, OneSlopeOfChange, ChangeAtMost99, ChangeBelowPickup}
 use Rattle.differential.specs.Named.{NamedWindow, OneCountIsFalse, BandIsUsed}
 use Rattle.differential.specs.PaperMill.{PaperMill}

@@ -1,6 +1,6 @@
 -- `decision::bearing` meets its contract.
 use mathlib.Core.Path.{ap, ap₂, _∙_}
-use Rattle.distance.specs.Direction.{reachesPickup, directionOf}
+use Rattle.direction.specs.Direction.{reachesPickup, directionOf}
 use Rattle.decision.proofs.bearing.Statement.{statement}
 use Rattle.decision.proofs.bearing.Tie as tie
 

@@ -8,7 +8,7 @@ use Rattle.whole.proofs.Size.{along}
 use Rattle.settings.specs.Fields.{secondReach}
 use Rattle.distance.specs.Constants.{replica}
 use Rattle.distance.specs.Mho.{loopBits}
-use Rattle.distance.proofs.Sizes.{reach-within, second-reach-within}
+use Rattle.settings.proofs.Sizes.{reach-within, second-reach-within}
 use Rattle.decision.specs.Decision.{loopsAt, assertingBits}
 use Rattle.decision.proofs.zones.Statement.{statement}
 use Rattle.decision.proofs.zones.Tie as tie

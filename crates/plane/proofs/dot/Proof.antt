@@ -6,7 +6,7 @@ use Rattle.plane.proofs.dot.Statement.{statement}
 use Rattle.plane.proofs.dot.Tie as tie
 
 steps : (c : tie.Start) → Products _+ℤ_ (c .args .p .re) (c .args .q .re) (c .args .p .im) (c .args .q .im)
-steps c = let h = c .pre in products sum (h .0 .real) (h .1 .real) (h .0 .imag) (h .1 .imag) tt tt tt
+steps c = let h = c .pre in products sum (h .p-inside .real) (h .q-inside .real) (h .p-inside .imag) (h .q-inside .imag) (h .p-fits) (h .q-fits) (h .both-fit)
 
 pub dot-spec : {M : Type 1} → statement M
 unfolding dot

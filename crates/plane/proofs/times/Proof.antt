@@ -8,10 +8,10 @@ use Rattle.plane.proofs.times.Tie as tie
 
 module _ (c : tie.Start) where
   real : Products _-ℤ_ (c .args .p .re) (c .args .q .re) (c .args .p .im) (c .args .q .im)
-  real = let h = c .pre in products difference (h .0 .real) (h .1 .real) (h .0 .imag) (h .1 .imag) tt tt tt
+  real = let h = c .pre in products difference (h .p-inside .real) (h .q-inside .real) (h .p-inside .imag) (h .q-inside .imag) (h .p-fits) (h .q-fits) (h .both-fit)
 
   imag : Products _+ℤ_ (c .args .p .re) (c .args .q .im) (c .args .p .im) (c .args .q .re)
-  imag = let h = c .pre in products sum (h .0 .real) (h .1 .imag) (h .0 .imag) (h .1 .real) tt tt tt
+  imag = let h = c .pre in products sum (h .p-inside .real) (h .q-inside .imag) (h .p-inside .imag) (h .q-inside .real) (h .p-fits) (h .q-fits) (h .both-fit)
 
 pub times-spec : {M : Type 1} → statement M
 unfolding times

@@ -2,7 +2,7 @@
 use borrow.Author.Needs.{needs}
 use Rattle.distance.specs.Sizes.{Compensates}
 use Rattle.distance.proofs.Sizes.{compensation-inside}
-use Rattle.distance.proofs.TwoFields.{two-fields}
+use Rattle.plane.proofs.Made.{two-fields}
 use Rattle.distance.proofs.constants.compensation.Statement.{statement}
 use Rattle.distance.proofs.constants.compensation.Tie as tie
 

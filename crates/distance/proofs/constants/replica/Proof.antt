@@ -3,7 +3,7 @@ use borrow.Author.Needs.{needs}
 use Rattle.plane.specs.Sizes.{Inside}
 use Rattle.settings.specs.Table.{mostReplica}
 use Rattle.distance.proofs.Sizes.{replica-inside}
-use Rattle.distance.proofs.TwoFields.{two-fields}
+use Rattle.plane.proofs.Made.{two-fields}
 use Rattle.distance.proofs.constants.replica.Statement.{statement}
 use Rattle.distance.proofs.constants.replica.Tie as tie
 

@@ -6,6 +6,7 @@ use lib.Signed.{ltZ-yes}
 use Rattle.whole.proofs.Size.{lit, wider}
 use Rattle.plane.specs.Plane.{times, rounded}
 use Rattle.plane.proofs.Bounds.{inside-factor, inside-wider, inside-along}
+use Rattle.plane.proofs.Steps.{multiply}
 use Rattle.distance.specs.Mho.{kProduct}
 use Rattle.distance.proofs.Sizes.{k-product-inside}
 use Rattle.distance.proofs.mho.k_product.Statement.{statement}
@@ -13,8 +14,7 @@ use Rattle.distance.proofs.mho.k_product.Tie as tie
 
 times-requires : tie.Need-times-requires
 times-requires c κs =
-    let h = c .before .pre in
-    (record { real = wider (h .0 .real) tt; imag = wider (h .0 .imag) tt }, inside-wider (c .residual .ensures .1) tt)
+    let k = c .before .pre .0 in multiply (record { real = k .real; imag = wider (k .imag) tt }) (c .residual .ensures .1) tt tt tt
 
 rounded-requires : tie.Need-rounded-requires
 rounded-requires c κs =

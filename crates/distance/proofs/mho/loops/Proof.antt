@@ -3,7 +3,7 @@ use mathlib.Core.Path.{_≡_, ap, _∙_}
 use denote.Ref.{now}
 use Rattle.plane.specs.declared.Phasor.{Phasor}
 use Rattle.plane.proofs.Bounds.{inside-wider}
-use Rattle.distance.specs.Sequence.{a, a², turned, positiveSequence}
+use Rattle.direction.specs.Sequence.{a, a², turned, positiveSequence}
 use Rattle.distance.specs.Constants.{compensation}
 use Rattle.distance.specs.Mho.{kProduct, sixOf, loopsOf}
 use Rattle.distance.proofs.mho.loops.Statement.{statement}

@@ -1,33 +1,29 @@
 -- `distance::mho::ratio_of` meets its contract: n and m are in the range of the rule.
 use mathlib.Core.Path.{_≡_, ap, _∙_}
-use Prim.Native.Nat.{_^_}
 use Rattle.whole.proofs.Machine.{back}
 use Rattle.whole.proofs.Size.{wider, along}
 use Rattle.plane.specs.declared.Phasor.{Phasor}
 use Rattle.plane.specs.Plane.{dot}
-use Rattle.plane.specs.Sizes.{Inside}
-use Rattle.plane.proofs.Bounds.{inside-times, within-dot, inside-wider, inside-along}
+use Rattle.plane.proofs.Bounds.{inside-times, within-dot, inside-along}
+use Rattle.plane.proofs.Steps.{multiply}
 use Rattle.distance.specs.Mho.{ratioOf}
 use Rattle.distance.proofs.mho.ratio_of.Statement.{statement}
 use Rattle.distance.proofs.mho.ratio_of.Tie as tie
-
--- Z I
-product : (c : tie.After-times) → Inside (10 ^ 10) (c .times .result)
-product c =
-    let h = c .before .before .pre in inside-along (c .times .ensures) (inside-wider (inside-times (h .0) (h .1 .current)) tt)
 
 -- m
 m-is : (c : tie.After-dot2) → c .dot2 .result ≡ ratioOf (c .before .before .before .args .z) (c .before .before .before .args .l) .m
 m-is c = c .dot2 .ensures ∙ ap (λ (p : Phasor). dot p (c .before .before .before .args .l .vp)) (c .before .times .ensures)
 
 dot-requires : tie.Need-dot-requires
-dot-requires c κs = let h = c .pre .1 in (inside-wider (h .voltage) tt, inside-wider (h .polarising) tt)
+dot-requires c κs = let h = c .pre .1 in multiply (h .voltage) (h .polarising) tt tt tt
 
 times-requires : tie.Need-times-requires
-times-requires c κs = let h = c .before .pre in (inside-wider (h .0) tt, inside-wider (h .1 .current) tt)
+times-requires c κs = let h = c .before .pre in multiply (h .0) (h .1 .current) tt tt tt
 
 dot-requires-2 : tie.Need-dot-requires-2
-dot-requires-2 c κs = (product c, inside-wider (c .before .before .pre .1 .polarising) tt)
+dot-requires-2 c κs =
+    let h = c .before .before .pre in
+    multiply (inside-along (c .times .ensures) (inside-times (h .0) (h .1 .current))) (h .1 .polarising) tt tt tt
 
 returns : tie.Need-returns
 returns c =
