@@ -16,7 +16,7 @@
   are there, and what it shows as printed is an example's. Code, laws and edits that a page quotes stand so in the crates. What README.md and
   the newest version in docs/CHANGES.md say of the state and of the header's names is so, and how many decisions are proved examples.
 - docs/CLAIMS.md: its table names each promise of the one statement in crates/promises, below the file that proves it, and the one statement
-  has every statement of crates/claims and crates/event_claims; the counts of assumed C functions are those that the checks of the crates
+  has every statement of the crates of claims; the counts of assumed C functions are those that the checks of the crates
   gave, which must all have been proved here.
 - docs/WRONG-RELAYS.md: it names each must-fail edit below its crate, in the order of the layers, and no other.
 - docs/HAND-CHECKS.md: its sums come out; in its root each call follows from the next; its example of feed, its event files, its decisions,

@@ -17,7 +17,7 @@ from tree import ROOT, blank, fault, faults, read
 README = Path('README.md')
 WRONG_RELAYS = Path('docs/WRONG-RELAYS.md')
 OF_THE_COMPARISON = Path('tests/independent/README.md')
-WORKED = Path('crates/claims/specs/Worked.antt')
+WORKED = Path('crates/worked/specs/Worked.antt')
 FOLDERS = ('crates', 'docs', 'tests', 'tools', 'include', 'examples', 'bench', '.ci')
 ROOT_FILES = ('build.sh', 'crates.txt', 'README.md', 'LICENSE')
 NAME = re.compile(r"[^\W\d][\w'·-]*")

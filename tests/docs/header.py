@@ -8,7 +8,7 @@ from tree import ROOT, blank, fault, faults, read, sources
 
 HEADER = Path('include/gorsepetal.h')
 CHANGES = Path('docs/CHANGES.md')
-CLAIMS = ('claims', 'event_claims')  # the crates that state what a call answers
+CLAIMS = ('claims', 'decision_claims', 'worked', 'event_claims')  # the crates that state what a reader may rely on
 STORED = Path('crates/stream/specs/Stored.antt')
 WINDOW = Path('crates/samples/specs/Window.antt')
 RECORD = Path('crates/records/specs/Record.antt')

@@ -38,7 +38,7 @@ PARTS = {'Claim', 'Complex', 'OneResult'}
 
 
 def unused(promised):
-    """Statements of crates/claims and crates/event_claims that no promise is made of."""
+    """Statements of the crates of claims that no promise is made of."""
     types = ' '.join(promised.values())
     for path in sorted(path for crate in header.CLAIMS for path in (ROOT / 'crates' / crate / 'specs').glob('*.antt')):
         for name in re.findall(r'^abbrev pub (\w+) : (?:Claim → )?Type [01]$', path.read_text(encoding='utf-8'), flags=re.MULTILINE):

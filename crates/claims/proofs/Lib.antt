@@ -1,5 +1,4 @@
 -- The proofs of the statements in specs/.
-pub mod Bits
 pub mod One
 pub mod Parts
 pub mod Relay
@@ -10,14 +9,6 @@ pub mod Demand1
 pub mod Settings
 pub mod Feeding
 pub mod Decisions
-pub mod Demand2
-pub mod Alike
-pub mod SecondZone
-pub mod Balanced
-pub mod Change
-pub mod Demand3
 pub mod WhichRule
-pub mod HandChecks
-pub mod Worked
 pub mod WrongRelays
 pub mod Underneath

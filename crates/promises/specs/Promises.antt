@@ -17,14 +17,14 @@ use Rattle.claims.specs.Demand1.{Demand1, OverHistories}
 use Rattle.claims.specs.Frames.{KeptExactly, ElseNothingKept, FedAsDecided, MissingInFrames, RefusedFeed, ReadIsFed, ElseUnfed}
 use Rattle.claims.specs.Unmoved.{FeedLeavesSettings, ReadLeavesSettings, EntriesLeaveWindow, WindowDoesNotMatter}
 use Rattle.claims.specs.Feeding.{FirmwareHears, HearsByEvents, HearsOverHistories, PlaceFalls}
-use Rattle.claims.specs.Demand2.{Demand2}
-use Rattle.claims.specs.SecondZone.{SecondZoneHasFirst, OtherBytesStay, RecordsFromBefore}
-use Rattle.claims.specs.Balanced.{BalancedFault, BetweenLimits, NoVoltage, ElseAsBefore}
-use Rattle.claims.specs.Change.{OneChange, SameStory, AtAnotherSlope, ChangeMovesThree}
-use Rattle.claims.specs.Demand3.{Demand3First, Demand3Second, Demand3OfChange, TripHasReason, FaultTrips, ThroughDoesNot, ThroughIsQuiet}
+use Rattle.decision_claims.specs.Demand2.{Demand2}
+use Rattle.decision_claims.specs.SecondZone.{SecondZoneHasFirst, OtherBytesStay, RecordsFromBefore}
+use Rattle.decision_claims.specs.Balanced.{BalancedFault, BetweenLimits, NoVoltage, ElseAsBefore}
+use Rattle.decision_claims.specs.Change.{OneChange, SameStory, AtAnotherSlope, ChangeMovesThree}
+use Rattle.decision_claims.specs.Demand3.{Demand3First, Demand3Second, Demand3OfChange, TripHasReason, FaultTrips, ThroughDoesNot, ThroughIsQuiet}
 use Rattle.claims.specs.WhichRule.{WhichRule, WhichRuleOverHistories, WhichRuleByFeeding, WhichRuleByEvents, WhichRecord, WhichRecordOverHistories, SaidTwiceReadsBack, SaidTwiceDecides, SaidTwiceDecidesByFeeding}
-use Rattle.claims.specs.HandChecks.{HandChecks}
-use Rattle.claims.specs.Worked.{WorkedDecisions}
+use Rattle.worked.specs.HandChecks.{HandChecks}
+use Rattle.worked.specs.Worked.{WorkedDecisions}
 use Rattle.claims.specs.Underneath.{RoundedOnce, RootsOnce}
 use Rattle.gorsepetal.proofs.EventContracts.{EventsOpenContract, EventsWantedContract, EventsReadContract, EventsEndContract, EventsWriteContract}
 use Rattle.files.specs.Cutting.{ReadAsJoined, JoinedAsRead, NoWrap}

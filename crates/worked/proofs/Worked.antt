@@ -11,7 +11,7 @@ use Rattle.direction.specs.Direction.{reachesPickup, torque, sideOf, directionO
 use Rattle.distance.specs.Mho.{residual, kProduct, groundLoop, phaseLoop, loopsOf, mho, asserts, loopBits}
 use Rattle.differential.specs.Differential.{square, endRestraint, restraint, operates, operatingBits, countedUp}
 use Rattle.decision.specs.Decision.{findings}
-use Rattle.claims.specs.Worked.{WorkedDecisions}
+use Rattle.worked.specs.Worked.{WorkedDecisions}
 
 pub worked-decisions : WorkedDecisions
 unfolding

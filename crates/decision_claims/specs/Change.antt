@@ -13,10 +13,10 @@ use Rattle.differential.specs.declared.change.Changes.{Changes}
 use Rattle.findings.specs.declared.Findings.{Findings}
 use Rattle.findings.specs.DecisionRecord.{trip}
 use Rattle.decision.specs.Decision.{findings}
-use Rattle.claims.specs.Bits.{isSet, AnyOf}
-use Rattle.claims.specs.Alike.{SameBut, recordWith}
+use Rattle.decision_claims.specs.Bits.{isSet, AnyOf}
+use Rattle.decision_claims.specs.Alike.{SameBut, recordWith}
 use Rattle.claims.specs.Decisions.{Decision}
-use Rattle.claims.specs.Demand2.{ChangesAt, TripsForward, TripsBalanced, byte}
+use Rattle.decision_claims.specs.Demand2.{ChangesAt, TripsForward, TripsBalanced, byte}
 
 -- "Prove that one such number exists for each window and that it is the one written": it, and no other.
 abbrev pub OneChange : Type 0

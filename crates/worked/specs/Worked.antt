@@ -11,7 +11,7 @@ use Rattle.settings.specs.Record.{negated}
 use Rattle.settings.specs.Table.{Rule, offsetOf, slopeRow, pickupRow, reachRow, secondReachRow}
 use Rattle.settings.specs.Examples.{exampleRecord, changed}
 use Rattle.decision.specs.Decision.{decision}
-use Rattle.claims.specs.HandChecks.{Complex}
+use Rattle.worked.specs.HandChecks.{Complex}
 
 -- A window of two ends in which each channel has a given phasor: 8 times its real part at n = 0, and minus 8 times its imaginary part at
 -- n = 4 (hand checks P1 and P6).

@@ -17,13 +17,13 @@ use Rattle.findings.specs.declared.Findings.{Findings}
 use Rattle.findings.specs.DecisionRecord.{decisionBytes}
 use Rattle.decision.specs.Decision.{findings, decisionLength}
 use Rattle.gorsepetal.proofs.Good.{in-range}
-use Rattle.claims.specs.Bits.{isSet, AnyOf}
-use Rattle.claims.specs.Alike.{SameBut}
-use Rattle.claims.specs.Demand2.{OperatesAt, Operates, TripsForward, TripsBalanced, byte, Tells}
-use Rattle.claims.specs.Change.{OneChange, SameStory, AtAnotherSlope, bytesBefore, ChangeMovesThree}
+use Rattle.decision_claims.specs.Bits.{isSet, AnyOf}
+use Rattle.decision_claims.specs.Alike.{SameBut}
+use Rattle.decision_claims.specs.Demand2.{OperatesAt, Operates, TripsForward, TripsBalanced, byte, Tells}
+use Rattle.decision_claims.specs.Change.{OneChange, SameStory, AtAnotherSlope, bytesBefore, ChangeMovesThree}
 use Rattle.claims.proofs.Decisions.{good, front}
-use Rattle.claims.proofs.Alike.{same-field, byte-is}
-use Rattle.claims.proofs.Demand2.{for-three, demand-2}
+use Rattle.decision_claims.proofs.Alike.{same-field, byte-is}
+use Rattle.decision_claims.proofs.Demand2.{for-three, demand-2}
 
 pub one-change : OneChange
 one-change s w out d c p l n =

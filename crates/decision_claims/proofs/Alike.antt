@@ -12,10 +12,10 @@ use Rattle.settings.specs.Record.{fieldAt}
 use Rattle.settings.specs.Table.{Rule, offsetOf}
 use Rattle.findings.specs.DecisionRecord.{decisionBytes}
 use Rattle.decision.specs.Decision.{findings, decisionLength}
-use Rattle.claims.specs.Alike.{SameBut}
+use Rattle.decision_claims.specs.Alike.{SameBut}
 use Rattle.claims.specs.Decisions.{Decision}
-use Rattle.claims.specs.Demand2.{byte}
+use Rattle.decision_claims.specs.Demand2.{byte}
 use Rattle.claims.proofs.Decisions.{front}
 
 -- every other field is the same in both records: it ends before the row's, or begins behind it
 pub same-field :

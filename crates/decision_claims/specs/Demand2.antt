@@ -9,7 +9,7 @@ use lib.IntN.{ℤ, pos}
 use lib.ListN.{drop, getD}
 use Rattle.whole.specs.Exactly.{Exactly}
 use Rattle.whole.specs.Root.{floorRoot}
-use Rattle.claims.specs.Bits.{BitsTell, AnyOf, AllOf}
+use Rattle.decision_claims.specs.Bits.{BitsTell, AnyOf, AllOf}
 use Rattle.plane.specs.declared.Phasor.{Phasor}
 use Rattle.phasors.specs.Grid.{current}
 use Rattle.settings.specs.Fields.{ends, slope, pickup, reach, secondReach}

@@ -11,7 +11,7 @@ use lib.ListN.{getD}
 use lib.Dec.{eqb}
 use Rattle.whole.specs.Bits.{bits}
 use Rattle.whole.specs.Exactly.{Exactly}
-use Rattle.claims.specs.Bits.{isSet, BitsTell, AnyOf, AllOf}
+use Rattle.decision_claims.specs.Bits.{isSet, BitsTell, AnyOf, AllOf}
 
 -- no bit of 0 is set
 none-of-zero : (k : ℕ) → isSet k 0 ≡ false

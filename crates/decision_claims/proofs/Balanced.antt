@@ -17,13 +17,13 @@ use Rattle.distance.proofs.Laws.{no-positive}
 use Rattle.findings.specs.declared.Findings.{Findings}
 use Rattle.findings.specs.DecisionRecord.{any, isForward, balancedFault, decisionBytes}
 use Rattle.decision.specs.Decision.{voltages, currentsOfEnd1, findings}
-use Rattle.claims.specs.Bits.{BitsTell, AnyOf, AllOf}
-use Rattle.claims.specs.Demand2.{phaseFacts, sixLoops, phaseLoopFacts, loopFacts, TripsForward, TripsBalanced, byte, Tells}
-use Rattle.claims.specs.Balanced.{BalancedFault, BetweenLimits, NoVoltage, bytesBefore, ElseAsBefore}
-use Rattle.claims.proofs.Bits.{none-told}
+use Rattle.decision_claims.specs.Bits.{BitsTell, AnyOf, AllOf}
+use Rattle.decision_claims.specs.Demand2.{phaseFacts, sixLoops, phaseLoopFacts, loopFacts, TripsForward, TripsBalanced, byte, Tells}
+use Rattle.decision_claims.specs.Balanced.{BalancedFault, BetweenLimits, NoVoltage, bytesBefore, ElseAsBefore}
+use Rattle.decision_claims.proofs.Bits.{none-told}
 use Rattle.claims.proofs.Decisions.{front}
-use Rattle.claims.proofs.Alike.{byte-is}
-use Rattle.claims.proofs.Demand2.{flag, i2, assert, trips-balanced, not-reached, reads-none, demand-2}
+use Rattle.decision_claims.proofs.Alike.{byte-is}
+use Rattle.decision_claims.proofs.Demand2.{flag, i2, assert, trips-balanced, not-reached, reads-none, demand-2}
 
 -- ---- the new rule
 

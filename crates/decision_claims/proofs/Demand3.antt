@@ -9,11 +9,11 @@ use native.Mathlib.Omega.{arith}
 use lib.IntN.{ℤ}
 use lib.ListN.{drop, getD}
 use Rattle.whole.specs.Exactly.{Exactly}
-use Rattle.claims.specs.Bits.{isSet, BitsTell, AnyOf}
+use Rattle.decision_claims.specs.Bits.{isSet, BitsTell, AnyOf}
 use Rattle.whole.specs.Round.{roundBy}
 use Rattle.whole.specs.Root.{floorRoot, rootUp}
 use Rattle.whole.specs.Sum.{sumOf}
-use Rattle.claims.proofs.Bits.{bit-is, none-told}
+use Rattle.decision_claims.proofs.Bits.{bit-is, none-told}
 use Rattle.plane.specs.Plane.{plus, minus, times, scaled, rounded, minusJ, dot, squaredMagnitude}
 use Rattle.phasors.specs.Sums.{withSample, sumTo, phasorOf}
 use Rattle.phasors.specs.Grid.{total}
@@ -27,12 +27,12 @@ use Rattle.direction.specs.Sequence.{turned, sequence}
 use Rattle.direction.specs.Direction.{reachesPickup, torque, sideOf, directionOf}
 use Rattle.distance.specs.Mho.{residual, kProduct, groundLoop, phaseLoop, loopsOf, mho, asserts, loopBits}
 use Rattle.decision.specs.Decision.{rateOf, findings, decisionLength, decision}
 use Rattle.claims.specs.Decisions.{Decision}
 use Rattle.gorsepetal.proofs.Good.{in-range}
-use Rattle.claims.specs.Demand2.{phaseCurrents, squareOf, OperatesAt, Operates, phaseFacts, ChangesAt, loopFacts, byte}
-use Rattle.claims.specs.Demand3.{sums, Demand3First, Demand3Second, Demand3OfChange, TripHasReason, fault, through, FaultTrips, ThroughDoesNot, ThroughIsQuiet}
+use Rattle.decision_claims.specs.Demand2.{phaseCurrents, squareOf, OperatesAt, Operates, phaseFacts, ChangesAt, loopFacts, byte}
+use Rattle.decision_claims.specs.Demand3.{sums, Demand3First, Demand3Second, Demand3OfChange, TripHasReason, fault, through, FaultTrips, ThroughDoesNot, ThroughIsQuiet}
 use Rattle.claims.proofs.Decisions.{good, front}
-use Rattle.claims.proofs.Demand2.{for-three, operating, operate, reads-none, demand-2}
+use Rattle.decision_claims.proofs.Demand2.{for-three, operating, operate, reads-none, demand-2}
 
 -- the bit of a phase in a decision
 bit : (s : List ℕ) (w : List ℤ) (rest : List ℕ) (p : ℕ) → p < 3 → isSet p (byte (decision s w ++ rest) 1) ≡ operating s w p

@@ -13,7 +13,7 @@ use Rattle.direction.specs.Sequence.{sequence}
 use Rattle.direction.specs.Direction.{reachesPickup, torque, sideOf, directionOf}
 use Rattle.distance.specs.Mho.{mho, asserts}
 use Rattle.differential.specs.Differential.{square, endRestraint, restraint, operates}
-use Rattle.claims.specs.HandChecks.{HandChecks}
+use Rattle.worked.specs.HandChecks.{HandChecks}
 
 pub hand-checks : HandChecks
 unfolding roundBy rounded withSample sumTo phasorOf plus times scaled sequence

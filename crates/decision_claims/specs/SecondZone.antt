@@ -11,10 +11,10 @@ use Rattle.settings.specs.declared.Checked.the-variants.{Good}
 use Rattle.settings.specs.Table.{Rule, Byte, secondReachRow, differentialRows, distanceRows, angleRows, directionRows, spareRows}
 use Rattle.settings.specs.Check.{checkedBy, checked}
 use Rattle.settings.specs.Fields.{secondReach}
-use Rattle.claims.specs.Bits.{isSet}
-use Rattle.claims.specs.Alike.{SameBut}
+use Rattle.decision_claims.specs.Bits.{isSet}
+use Rattle.decision_claims.specs.Alike.{SameBut}
 use Rattle.claims.specs.Decisions.{Decision}
-use Rattle.claims.specs.Demand2.{byte}
+use Rattle.decision_claims.specs.Demand2.{byte}
 
 -- "an overreaching zone": where it is on, a loop that asserts in the first zone asserts in the second. k is the loop's bit.
 abbrev pub SecondZoneHasFirst : Type 0

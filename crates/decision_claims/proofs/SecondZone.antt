@@ -27,14 +27,14 @@ use Rattle.findings.specs.declared.Findings.{Findings}
 use Rattle.findings.specs.DecisionRecord.{decisionBytes}
 use Rattle.decision.specs.Decision.{findings, decisionLength}
 use Rattle.gorsepetal.proofs.Good.{in-range}
-use Rattle.claims.specs.Bits.{isSet}
-use Rattle.claims.specs.Demand2.{byte}
-use Rattle.claims.specs.Alike.{SameBut}
-use Rattle.claims.specs.SecondZone.{SecondZoneHasFirst, OtherBytesStay, tableBefore, RecordsFromBefore}
-use Rattle.claims.proofs.Bits.{bit-is}
+use Rattle.decision_claims.specs.Bits.{isSet}
+use Rattle.decision_claims.specs.Demand2.{byte}
+use Rattle.decision_claims.specs.Alike.{SameBut}
+use Rattle.decision_claims.specs.SecondZone.{SecondZoneHasFirst, OtherBytesStay, tableBefore, RecordsFromBefore}
+use Rattle.decision_claims.proofs.Bits.{bit-is}
 use Rattle.claims.proofs.Decisions.{good, front}
-use Rattle.claims.proofs.Alike.{same-field}
-use Rattle.claims.proofs.Demand2.{assert, second}
+use Rattle.decision_claims.proofs.Alike.{same-field}
+use Rattle.decision_claims.proofs.Demand2.{assert, second}
 
 -- ---- the second zone has what the first has
 

@@ -14,8 +14,8 @@ use lib.Signed.{_<ℤ_}
 use Rattle.whole.specs.Bits.{bits}
 use Rattle.whole.specs.Exactly.{Exactly}
 use Rattle.whole.specs.Root.{floorRoot}
-use Rattle.claims.specs.Bits.{BitsTell, AllOf}
-use Rattle.claims.proofs.Bits.{Each, bits-tell, any-of, bits-most, behind-three, all-of}
+use Rattle.decision_claims.specs.Bits.{BitsTell, AllOf}
+use Rattle.decision_claims.proofs.Bits.{Each, bits-tell, any-of, bits-most, behind-three, all-of}
 use Rattle.plane.specs.declared.Phasor.{Phasor}
 use Rattle.settings.specs.Fields.{ends, slope, pickup, reach, forwardLimit, reverseLimit, secondReach}
 use Rattle.direction.specs.declared.Direction.{Direction}
@@ -35,8 +35,8 @@ use Rattle.differential.proofs.SlopeOfChange.{changes, change-at-most-99}
 use Rattle.findings.specs.DecisionRecord.{isForward, allPhaseLoops, balancedFault}
 use Rattle.decision.specs.Decision.{voltages, currentsOfEnd1, findings, decisionLength, decision}
 use Rattle.gorsepetal.proofs.Good.{in-range}
-use Rattle.claims.specs.Demand2.{phaseCurrents, squareOf, restraintOf, phaseFacts, ChangesAt, sixLoops, phaseLoopFacts, loopFacts, DirectionForward, Balanced, TripsBalanced, byte, wordAt, Tells, Demand2}
+use Rattle.decision_claims.specs.Demand2.{phaseCurrents, squareOf, restraintOf, phaseFacts, ChangesAt, sixLoops, phaseLoopFacts, loopFacts, DirectionForward, Balanced, TripsBalanced, byte, wordAt, Tells, Demand2}
 use Rattle.claims.proofs.Decisions.{good, front}
 
 -- ---- 1 or 0, and the trip rule
 

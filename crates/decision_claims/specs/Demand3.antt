@@ -7,7 +7,7 @@ use mathlib.Core.Logic.{_⊎_}
 use mathlib.Core.List.{List, [], _∷_, map}
 use lib.IntN.{ℤ, pos}
 use lib.ListN.{replicate}
-use Rattle.claims.specs.Bits.{isSet, AllOf}
+use Rattle.decision_claims.specs.Bits.{isSet, AllOf}
 use Rattle.plane.specs.declared.Phasor.{Phasor}
 use Rattle.decision.specs.Decision.{rateOf}
 use Rattle.phasors.specs.Grid.{exactCurrent}
@@ -15,8 +15,8 @@ use Rattle.settings.specs.Record.{negated}
 use Rattle.settings.specs.Fields.{ends, slope, pickup}
 use Rattle.settings.specs.Examples.{exampleRecord}
 use Rattle.differential.specs.Demand3.{NotBelow, Above, band}
 use Rattle.claims.specs.Decisions.{Decision}
-use Rattle.claims.specs.Demand2.{squareOf, Balanced, byte}
+use Rattle.decision_claims.specs.Demand2.{squareOf, Balanced, byte}
 
 -- A and B of each end
 abbrev pub sums : List ℕ → List ℤ → ℕ → ℕ → Phasor

@@ -14,10 +14,10 @@ use Rattle.direction.specs.Laws.{PickupReached}
 use Rattle.findings.specs.declared.Findings.{Findings}
 use Rattle.findings.specs.DecisionRecord.{any, isForward}
 use Rattle.decision.specs.Decision.{voltages, currentsOfEnd1, findings}
-use Rattle.claims.specs.Bits.{AnyOf, AllOf}
-use Rattle.claims.specs.Alike.{recordWith}
+use Rattle.decision_claims.specs.Bits.{AnyOf, AllOf}
+use Rattle.decision_claims.specs.Alike.{recordWith}
 use Rattle.claims.specs.Decisions.{Decision}
-use Rattle.claims.specs.Demand2.{phaseFacts, phaseLoopFacts, Balanced, byte}
+use Rattle.decision_claims.specs.Demand2.{phaseFacts, phaseLoopFacts, Balanced, byte}
 
 -- ---- the new rule
 

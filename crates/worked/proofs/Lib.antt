@@ -1,0 +1,3 @@
+-- Both, by computation.
+pub mod HandChecks
+pub mod Worked
