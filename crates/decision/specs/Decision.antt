@@ -17,6 +17,7 @@ use Rattle.distance.specs.declared.mho.SixLoops.{SixLoops}
 use Rattle.distance.specs.Mho.{loopsOf, loopBits}
 use Rattle.differential.specs.declared.Comparisons.{Comparisons}
 use Rattle.differential.specs.Differential.{comparisons, operatingBits, slopesOfChange}
+use Rattle.quadrilateral.specs.Quadrilateral.{quadrilateralsOf}
 use Rattle.findings.specs.declared.Findings.{Findings}
 use Rattle.findings.specs.DecisionRecord.{decisionBytes}
 
@@ -58,10 +59,15 @@ unbalancedAt s i = reachesPickup s (negativeSequence i)
 abbrev pub directionAt : List ℕ → Phases → Phases → Direction
 directionAt s v i = directionOf s (negativeSequence v) (negativeSequence i)
 
+-- the quadrilateral ground loops that see a fault ahead (document 02, CR 7)
+abbrev pub quadrilateralsAt : List ℕ → Phases → Phases → ℕ
+quadrilateralsAt s v i = quadrilateralsOf s i (loopsAt s v i) (directionAt s v i)
+
 unfoldable pub findings : List ℕ → List ℤ → Findings
 findings s w =
     record {
       operating = operatingBits (slope s) (pickup s) (comparisonsOf s w);
+      quadrilaterals = quadrilateralsAt s (voltages s w) (currentsOfEnd1 s w);
       asserting = assertingBits s (loopsAt s (voltages s w) (currentsOfEnd1 s w));
       overreaching = overreachingBits s (loopsAt s (voltages s w) (currentsOfEnd1 s w));
       unbalanced = unbalancedAt s (currentsOfEnd1 s w);

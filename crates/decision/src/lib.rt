@@ -6,11 +6,13 @@ ghost use Rattle.plane.specs.Sizes.{AllInside, phasorSize};
 ghost use Rattle.samples.specs.Window.{windowLength, firstMissing};
 ghost use Rattle.settings.specs.Record.{recordLength};
 ghost use Rattle.settings.specs.Fields.{Ranges, ends};
-ghost use Rattle.differential.specs.Sizes.{AllSized};
+ghost use Rattle.distance.specs.Sizes.{SixInside};
+ghost use Rattle.findings.specs.Sizes.{FindingsSized};
 ghost use Rattle.decision.specs.Decide.{Decided};
-ghost use Rattle.decision.specs.Decision.{loopsAt, assertingBits, overreachingBits, unbalancedAt, directionAt, findings, decision};
+ghost use Rattle.decision.specs.Decision.{assertingBits, overreachingBits, unbalancedAt, directionAt, findings, decision};
 use answers::Answer;
 use direction::Bearing;
+use distance::mho::SixLoops;
 use distance::mho::ZoneBits;
 use findings::Findings;
 use plane::Phases;
@@ -27,15 +29,14 @@ pub fn window_length(s: &[u8]) -> usize
     samples::FRAMES * samples::channels(settings::fields::ends(s) as usize)
 }
 
-// The loops that assert in each zone, at the reaches in force, from the voltages and the currents of end 1. In the second zone none does
-// where it is off.
-fn zones(s: &[u8], v: Phases, i: Phases) -> ZoneBits
-    requires { ⌜ Ranges (now s) × AllInside phasorSize v × AllInside phasorSize i ⌝ }
-    ensures { λ r. ⌜ (r .first ≡ assertingBits (now (s .entry)) (loopsAt (now (s .entry)) v i)) × (r .second ≡ overreachingBits (now (s .entry)) (loopsAt (now (s .entry)) v i)) ⌝ }
+// Which of the six loops of end 1 assert in each zone, at the reaches in force. In the second zone none does where it is off.
+fn zones(s: &[u8], l: SixLoops) -> ZoneBits
+    requires { ⌜ Ranges (now s) × SixInside l ⌝ }
+    ensures { λ r. ⌜ (r .first ≡ assertingBits (now (s .entry)) l) × (r .second ≡ overreachingBits (now (s .entry)) l) ⌝ }
 {
     let reach = settings::fields::reach(s);
     let second_reach = settings::fields::second_reach(s);
-    let seen = distance::mho::zone_bits(s, reach, second_reach, distance::mho::loops(s, v, i));
+    let seen = distance::mho::zone_bits(s, reach, second_reach, l);
     let first = seen.first;
     if second_reach == 0 {
         return ZoneBits { first, second: 0 };
@@ -43,7 +44,7 @@ fn zones(s: &[u8], v: Phases, i: Phases) -> ZoneBits
     seen
 }
 
-// Whether 3I2 reaches its pickup, and the direction of a fault, from the same.
+// Whether 3I2 reaches its pickup, and the direction of a fault, from the voltages and the currents of end 1.
 fn bearing(s: &[u8], v: Phases, i: Phases) -> Bearing
     requires { ⌜ Ranges (now s) × AllInside phasorSize v × AllInside phasorSize i ⌝ }
     ensures { λ r. ⌜ (r .unbalanced ≡ unbalancedAt (now (s .entry)) i) × (r .direction ≡ directionAt (now (s .entry)) v i) ⌝ }
@@ -56,7 +57,7 @@ fn bearing(s: &[u8], v: Phases, i: Phases) -> Bearing
 // What is found in a window of the right length, by a good settings record.
 fn findings_in(s: &[u8], window: &[i16]) -> Findings
     requires { ⌜ Ranges (now s) × (length (now window) ≡ windowLength (ends (now s))) ⌝ }
-    ensures { λ r. ⌜ (r ≡ findings (now (s .entry)) (now (window .entry))) × AllSized (r .comparisons) ⌝ }
+    ensures { λ r. ⌜ (r ≡ findings (now (s .entry)) (now (window .entry))) × FindingsSized r ⌝ }
 {
     let ends = settings::fields::ends(s) as usize;
     let v = phasors::voltages(window, ends);
@@ -65,14 +66,17 @@ fn findings_in(s: &[u8], window: &[i16]) -> Findings
     let comparisons = differential::of_phases(grid, ends);
     let operating = differential::operating_bits(s, comparisons);
     let changes = differential::change::slopes_of_change(s, comparisons);
-    let zones = zones(s, v, i);
+    let loops = distance::mho::loops(s, v, i);
+    let zones = zones(s, loops);
     let asserting = zones.first;
     let overreaching = zones.second;
     let bearing = bearing(s, v, i);
     let unbalanced = bearing.unbalanced;
     let direction = bearing.direction;
+    let quadrilaterals = quadrilateral::of_fault(s, i, loops, direction);
     Findings {
         operating,
+        quadrilaterals,
         asserting,
         overreaching,
         unbalanced,

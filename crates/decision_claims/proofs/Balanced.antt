@@ -11,19 +11,19 @@ use Rattle.whole.specs.Bits.{bits}
 use Rattle.whole.specs.Exactly.{Exactly}
 use Rattle.settings.specs.Fields.{reach, secondReach}
 use Rattle.distance.specs.Constants.{replica, compensation}
-use Rattle.direction.specs.Direction.{reachesPickup}
+use Rattle.direction.specs.Direction.{isForward, reachesPickup}
 use Rattle.distance.specs.Mho.{loopBits}
 use Rattle.distance.proofs.Laws.{no-positive}
 use Rattle.findings.specs.declared.Findings.{Findings}
-use Rattle.findings.specs.DecisionRecord.{any, isForward, balancedFault, decisionBytes}
+use Rattle.findings.specs.DecisionRecord.{any, balancedFault, decisionBytes}
 use Rattle.decision.specs.Decision.{voltages, currentsOfEnd1, findings}
 use Rattle.decision_claims.specs.Bits.{BitsTell, AnyOf, AllOf}
-use Rattle.decision_claims.specs.Demand2.{phaseFacts, sixLoops, phaseLoopFacts, loopFacts, TripsForward, TripsBalanced, byte, Tells}
+use Rattle.decision_claims.specs.Demand2.{phaseFacts, sixLoops, phaseLoopFacts, loopFacts, quadrilateralFacts, TripsForward, TripsBalanced, byte, Tells}
 use Rattle.decision_claims.specs.Balanced.{BalancedFault, BetweenLimits, NoVoltage, bytesBefore, ElseAsBefore}
 use Rattle.decision_claims.proofs.Bits.{none-told}
 use Rattle.claims.proofs.Decisions.{front}
 use Rattle.decision_claims.proofs.Alike.{byte-is}
-use Rattle.decision_claims.proofs.Demand2.{flag, i2, assert, trips-balanced, not-reached, reads-none, demand-2}
+use Rattle.decision_claims.proofs.Demand2.{flag, i2, assert, trips-balanced, which-quadrilateral, not-reached, reads-none, demand-2}
 
 -- ---- the new rule
 
@@ -32,24 +32,28 @@ balanced-fault s w out d c below =
     let told = demand-2 s w out d c .0 in (
       reads-none s w d told below,
       (
-        λ t. ⊎-elim inl (λ more. ⊎-elim (λ ahead. absurd (not-reached s w below (ahead .0 .0))) (λ balanced. inr (balanced .1)) more) (told .trip .0 t),
-        λ h. told .trip .1 (⊎-elim inl (λ all. inr (inr (below, all))) h),
+        λ t.
+            ⊎-elim inl
+            (⊎-elim (λ ahead. absurd (not-reached s w below (ahead .0 .0)))
+            (⊎-elim (λ balanced. inr (balanced .1)) (λ any. absurd (not-reached s w below (which-quadrilateral s w any .1 .0 .1 .0))))) (told .trip .0 t),
+        λ h. told .trip .1 (⊎-elim inl (λ all. inr (inr (inl (below, all)))) h),
       ),
     )
 
--- where no loop trips, by direction or as a balanced fault, the phases alone do
-by-phases :
+-- where no loop trips, by direction or as a balanced fault, the phases and the quadrilaterals alone do
+by-others :
     (s : List ℕ) (w : List ℤ) (d : List ℕ) → Tells s w d → (TripsForward s w → ⊥) → (TripsBalanced s w → ⊥)
-    → Exactly (byte d 0 ≡ 1) (AnyOf (phaseFacts s w))
-by-phases s w d told ahead balanced = (
-  λ t. ⊎-elim (λ any. any) (λ more. absurd (⊎-elim ahead balanced more)) (told .trip .0 t),
-  λ any. told .trip .1 (inl any),
+    → Exactly (byte d 0 ≡ 1) (AnyOf (phaseFacts s w) ⊎ AnyOf (quadrilateralFacts s w))
+by-others s w d told ahead balanced = (
+  λ t. ⊎-elim inl (⊎-elim (λ a. absurd (ahead a)) (⊎-elim (λ b. absurd (balanced b)) inr)) (told .trip .0 t),
+  λ h. told .trip .1 (⊎-elim inl (λ any. inr (inr (inr any))) h),
 )
 
 pub between-limits : BetweenLimits
 between-limits s w out d c reached e =
     let told = demand-2 s w out d c .0 in
-    by-phases s w d told (λ ahead. told .none .0 e .0 (ahead .0)) (λ balanced. not-reached s w (balanced .0) reached)
+    let others = by-others s w d told (λ ahead. told .none .0 e .0 (ahead .0)) (λ balanced. not-reached s w (balanced .0) reached) in
+    (λ t. ⊎-elim (λ any. any) (λ any. absurd (told .none .0 e .0 (which-quadrilateral s w any .1 .0 .1))) (others .0 t), λ any. others .1 (inl any))
 
 -- ---- no voltage
 
@@ -71,7 +75,7 @@ no-voltage s w out d c dead =
     let none : AnyOf (loopFacts s w (reach s)) → ⊥ = none-told 0 (loopFacts s w (reach s)) (subst (λ n. BitsTell n 0 (loopFacts s w (reach s))) first (told .loop-bits)) in (
       first,
       ap (λ x. byte x 4) (front c) ∙ no-loops (eqb (secondReach s) 0) (loopBits (replica s) (pos (secondReach s)) (sixLoops s w)) (quiet (secondReach s)),
-      by-phases s w d told (λ ahead. none (ahead .1)) (λ balanced. none (among s w (reach s) (balanced .1))),
+      by-others s w d told (λ ahead. none (ahead .1)) (λ balanced. none (among s w (reach s) (balanced .1))),
     )
 
 -- ---- as before
@@ -80,16 +84,15 @@ but-0 : (f : Findings) (k : ℕ) → 1 ≤ k → byte (decisionBytes f) k ≡ by
 but-0 f zero l = absurd (omega arith)
 but-0 f (suc k) l = refl
 
--- 1 or 0, for two reasons and a third: where the third fails, and where one of the two holds
-no-third : (x y z : Bool) → z ≡ false → flag (x || (y || z)) ≡ flag (x || y)
-no-third true y z n = refl
-no-third false true z n = refl
-no-third false false z n = ap flag n
+-- 1 or 0, with one reason more: where it fails, and where another holds
+without : (x y z q : Bool) → z ≡ false → flag (x || (y || (z || q))) ≡ flag (x || (y || q))
+without x y z q n = rw n
 
-also : (x y z : Bool) → flag (x || y) ≡ 1 → flag (x || (y || z)) ≡ 1
-also true y z e = refl
-also false true z e = refl
-also false false z e = absurd (omega arith)
+also : (x y z q : Bool) → flag (x || (y || q)) ≡ 1 → flag (x || (y || (z || q))) ≡ 1
+also true y z q e = refl
+also false true z q e = refl
+also false false true q e = refl
+also false false false q e = e
 
 refuted : (b : Bool) {A : Type 0} → (b ≡ true → A) → (A → ⊥) → b ≡ false
 refuted true h n = absurd (n (h refl))
@@ -101,6 +104,9 @@ module _ (s : List ℕ) (w : List ℤ) where
 
   abbrev ahead : Bool
   ahead = isForward (findings s w .direction) && any (findings s w .asserting)
+
+  abbrev quadrilateral : Bool
+  quadrilateral = any (findings s w .quadrilaterals)
 
   abbrev third : Bool
   third = balancedFault (findings s w .asserting) (findings s w .unbalanced)
@@ -115,6 +121,6 @@ else-as-before =
       other-bytes = λ s w out d c k least most. byte-is s w out d c k most ∙ but-0 (findings s w) k least;
       trip-stays = λ s w out d c h.
           let not-balanced : TripsBalanced s w → ⊥ = λ b. ⊎-elim (λ reached. not-reached s w (b .0) reached) (λ some. some (b .1)) h in
-          byte-is s w out d c 0 (omega arith) ∙ no-third (phases s w) (ahead s w) (third s w) (third-fails s w not-balanced);
-      trips-still = λ s w out d c e. byte-is s w out d c 0 (omega arith) ∙ also (phases s w) (ahead s w) (third s w) e;
+          byte-is s w out d c 0 (omega arith) ∙ without (phases s w) (ahead s w) (third s w) (quadrilateral s w) (third-fails s w not-balanced);
+      trips-still = λ s w out d c e. byte-is s w out d c 0 (omega arith) ∙ also (phases s w) (ahead s w) (third s w) (quadrilateral s w) e;
     }

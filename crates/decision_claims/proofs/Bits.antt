@@ -6,9 +6,9 @@ use mathlib.Core.Logic.{inl, inr, ⊎-elim}
 use mathlib.Core.List.{List, [], _∷_}
 use mathlib.Core.Bool.{Bool, true, false, not, cond, false≢true}
 use native.Mathlib.Omega.{arith}
-use borrow.Author.Tests.{eq-eqb, ne-eqb, eqb-true}
+use borrow.Author.Tests.{eq-eqb, ne-eqb, eqb-true, leb-true, leb-false}
 use lib.ListN.{getD}
-use lib.Dec.{eqb}
+use lib.Dec.{eqb, leb}
 use Rattle.whole.specs.Bits.{bits}
 use Rattle.whole.specs.Exactly.{Exactly}
 use Rattle.decision_claims.specs.Bits.{isSet, BitsTell, AnyOf, AllOf}
@@ -88,6 +88,9 @@ behind-three a b c bs =
     let first = rest a (bits (b ∷ c ∷ bs)) in let second = rest b (bits (c ∷ bs)) in let third = rest c (bits bs) in
     omega (arith, first, second, third)
 
+pub three-and-more : (a b c : Bool) (bs : List Bool) → bits (a ∷ b ∷ c ∷ []) + 8 * bits bs ≡ bits (a ∷ b ∷ c ∷ bs)
+three-and-more a b c bs = omega arith
+
 odd-alike : (n m : ℕ) → eqb (1 + 2 * n) (1 + 2 * m) ≡ eqb n m
 odd-alike n m = by-test (eqb n m) refl
   where
@@ -113,3 +116,30 @@ pub none-told : (k : ℕ) (As : List (Type 0)) → BitsTell 0 k As → AnyOf As 
 none-told k [] h a = a
 none-told k (A ∷ As) h (inl a) = false≢true (sym (none-of-zero k) ∙ h .0 .1 a)
 none-told k (A ∷ As) h (inr more) = none-told (suc k) As (h .1) more
+
+-- a bit from the fourth on: the number is not small
+pub from-bit-3 : (k n : ℕ) → isSet (suc (suc (suc k))) n ≡ true → 8 ≤ n
+from-bit-3 k n t = by-test (leb 8 n) refl
+  where
+    by-test : (b : Bool) → leb 8 n ≡ b → 8 ≤ n
+    by-test true e = leb-true 8 n e
+    by-test false e =
+        let less = leb-false 8 n e in
+        let none : n / 2 / 2 / 2 ≡ 0 = omega (arith, less) in
+        absurd (false≢true (sym (none-of-zero k) ∙ sym (ap (isSet k) none) ∙ t))
+
+-- each yes of a list is one of another
+abbrev pub Leads : List Bool → List Bool → Type 0
+Leads [] cs = Unit {0}
+Leads (b ∷ bs) [] = ⊥
+Leads (b ∷ bs) (c ∷ cs) = (b ≡ true → c ≡ true) × Leads bs cs
+
+led : (bs cs : List Bool) → Leads bs cs → (k : ℕ) → getD bs k false ≡ true → getD cs k false ≡ true
+led [] cs h k t = absurd (false≢true t)
+led (b ∷ bs) [] h k t = absurd h
+led (b ∷ bs) (c ∷ cs) h zero t = h .0 t
+led (b ∷ bs) (c ∷ cs) h (suc k) t = led bs cs (h .1) k t
+
+-- so a bit that is set in the one number is set in the other
+pub bits-lead : (bs cs : List Bool) → Leads bs cs → (k : ℕ) → isSet k (bits bs) ≡ true → isSet k (bits cs) ≡ true
+bits-lead bs cs h k t = bit-is cs k ∙ led bs cs h k (sym (bit-is bs k) ∙ t)

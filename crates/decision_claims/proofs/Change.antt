@@ -1,12 +1,12 @@
 -- The slope at which it changes: all but the bytes themselves is read off what demand 2 tells.
-use Prim.Native.Nat.{ℕ, zero, suc, _+_, _≤_, _<_}
+use Prim.Native.Nat.{ℕ, _+_, _≤_, _<_}
 use mathlib.Core.Path.{_≡_, refl, sym, ap, _∙_}
 use mathlib.Core.Logic.{_⊎_, inl, inr, ⊎-elim}
-use mathlib.Core.List.{List, [], _∷_, _++_}
+use mathlib.Core.List.{List, [], _∷_}
 use mathlib.Core.Bool.{true}
 use native.Mathlib.Omega.{arith}
 use lib.IntN.{ℤ}
-use lib.ListN.{getD, set, drop}
+use lib.ListN.{set}
 use lib.Seq.{getD-set-other}
 use Rattle.whole.specs.Exactly.{Exactly}
 use Rattle.settings.specs.Table.{slopeRow}
@@ -15,14 +15,15 @@ use Rattle.direction.specs.Direction.{reachesPickup, directionOf}
 use Rattle.differential.proofs.SlopeOfChange.{only-one}
 use Rattle.findings.specs.declared.Findings.{Findings}
 use Rattle.findings.specs.DecisionRecord.{decisionBytes}
-use Rattle.decision.specs.Decision.{findings, decisionLength}
+use Rattle.quadrilateral.specs.Quadrilateral.{quadrilateralsOf}
+use Rattle.decision.specs.Decision.{findings}
 use Rattle.gorsepetal.proofs.Good.{in-range}
 use Rattle.decision_claims.specs.Bits.{isSet, AnyOf}
 use Rattle.decision_claims.specs.Alike.{SameBut}
-use Rattle.decision_claims.specs.Demand2.{OperatesAt, Operates, TripsForward, TripsBalanced, byte, Tells}
+use Rattle.decision_claims.specs.Demand2.{OperatesAt, Operates, TripsByDistance, byte, Tells}
 use Rattle.decision_claims.specs.Change.{OneChange, SameStory, AtAnotherSlope, bytesBefore, ChangeMovesThree}
-use Rattle.claims.proofs.Decisions.{good, front}
-use Rattle.decision_claims.proofs.Alike.{same-field, byte-is}
+use Rattle.claims.proofs.Decisions.{good}
+use Rattle.decision_claims.proofs.Alike.{same-field, byte-is, withPhases, same-from-2, high-bits}
 use Rattle.decision_claims.proofs.Demand2.{for-three, demand-2}
 
 pub one-change : OneChange
@@ -50,35 +51,27 @@ some-of-three f g h (inr (inl b)) = inr (inl (g b))
 some-of-three f g h (inr (inr (inl c))) = inr (inr (inl (h c)))
 some-of-three f g h (inr (inr (inr none))) = absurd none
 
--- what was found, with no phase that operates
-abbrev unsloped : Findings → Findings
-unsloped f = record { operating = 0; asserting = f .asserting; overreaching = f .overreaching; unbalanced = f .unbalanced; direction = f .direction; changes = f .changes; comparisons = f .comparisons }
-
-from-2 : (f : Findings) (rest : List ℕ) (k : ℕ) → 2 ≤ k → getD (decisionBytes f ++ rest) k 0 ≡ getD (decisionBytes (unsloped f) ++ rest) k 0
-from-2 f rest zero l = absurd (omega arith)
-from-2 f rest (suc zero) l = absurd (omega arith)
-from-2 f rest (suc (suc k)) l = refl
-
-same-findings : (s t : List ℕ) → SameBut slopeRow s t → (w : List ℤ) → unsloped (findings s w) ≡ unsloped (findings t w)
-unfolding findings directionOf reachesPickup
+-- what was found is the same, but for the phases that operate
+same-findings :
+    (s t : List ℕ) → SameBut slopeRow s t → (w : List ℤ)
+    → withPhases 0 (findings s w .quadrilaterals) (findings s w) ≡ withPhases 0 (findings t w .quadrilaterals) (findings t w)
+unfolding findings directionOf reachesPickup quadrilateralsOf
 same-findings s t h w =
     let same = same-field slopeRow s t h in
     rw (same 0 refl, same 4 refl, same 6 refl, same 8 refl, same 10 refl, same 12 refl, same 14 refl)
-    (rw (same 16 refl, same 18 refl, same 20 refl, same 22 refl, same 24 refl, same 26 refl))
+    (rw (same 16 refl, same 18 refl, same 20 refl, same 22 refl, same 24 refl, same 26 refl, same 28 refl))
 
 -- what trips by distance is the same
-same-distance : (s t : List ℕ) → SameBut slopeRow s t → (w : List ℤ) → (TripsForward s w ⊎ TripsBalanced s w) ≡ (TripsForward t w ⊎ TripsBalanced t w)
+same-distance : (s t : List ℕ) → SameBut slopeRow s t → (w : List ℤ) → TripsByDistance s w ≡ TripsByDistance t w
 same-distance s t h w =
     let same = same-field slopeRow s t h in
     rw (same 0 refl, same 6 refl, same 8 refl, same 10 refl, same 12 refl, same 14 refl)
-    (rw (same 16 refl, same 18 refl, same 20 refl, same 24 refl))
+    (rw (same 16 refl, same 18 refl, same 20 refl, same 24 refl, same 28 refl))
 
 pub at-another-slope : AtAnotherSlope
 at-another-slope s t w out d e h c b =
-    let rest = drop decisionLength out in
-    let alike : (k : ℕ) → 2 ≤ k → byte d k ≡ byte e k = λ k l.
-    ap (λ x. byte x k) (front c) ∙ from-2 (findings s w) rest k l ∙ ap (λ f. getD (decisionBytes f ++ rest) k 0) (same-findings s t h w)
-    ∙ sym (from-2 (findings t w) rest k l) ∙ sym (ap (λ x. byte x k) (front b)) in
+    let found = same-findings s t h w in
+    let alike = same-from-2 s t w out d e (ap (withPhases 0 0) found) c b in
     let told = demand-2 t w out e b .0 in
     let range = in-range t (good b) .slope-range in
     let at-most-c : (p : ℕ) → p < 3 → Exactly (Operates t w p) (slope t ≤ byte d (5 + p)) = λ p l.
@@ -90,6 +83,7 @@ at-another-slope s t w out d e h c b =
         λ trip. ⊎-elim (λ any. inl (some-of-three (pa .0) (pb .0) (pc .0) any)) inr (told .trip .0 trip),
         λ by. told .trip .1 (⊎-elim (λ any. inl (some-of-three (pa .1) (pb .1) (pc .1) any)) inr by),
       );
+      quadrilaterals = high-bits s w out d c ∙ ap (λ f. f .quadrilaterals) found ∙ sym (high-bits t w out e b);
       others = alike;
     }
 

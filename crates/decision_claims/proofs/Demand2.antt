@@ -6,7 +6,7 @@ use mathlib.Core.Logic.{_⊎_, inl, inr, ⊎-elim}
 use mathlib.Core.List.{List, [], _∷_, _++_}
 use mathlib.Core.Bool.{Bool, true, false, not, cond, true≢false, false≢true, _&&_, _||_}
 use native.Mathlib.Omega.{arith}
-use borrow.Author.Tests.{eqb-true}
+use borrow.Author.Tests.{eqb-true, ne-eqb}
 use lib.Dec.{eqb}
 use lib.IntN.{ℤ, pos}
 use lib.ListN.{drop}
@@ -14,28 +14,30 @@ use lib.Signed.{_<ℤ_}
 use Rattle.whole.specs.Bits.{bits}
 use Rattle.whole.specs.Exactly.{Exactly}
 use Rattle.whole.specs.Root.{floorRoot}
-use Rattle.decision_claims.specs.Bits.{BitsTell, AllOf}
-use Rattle.decision_claims.proofs.Bits.{Each, bits-tell, any-of, bits-most, behind-three, all-of}
+use Rattle.decision_claims.specs.Bits.{isSet, BitsTell, AnyOf, AllOf}
+use Rattle.decision_claims.proofs.Bits.{Each, bits-tell, any-of, bits-most, behind-three, all-of, three-and-more}
 use Rattle.plane.specs.declared.Phasor.{Phasor}
-use Rattle.settings.specs.Fields.{ends, slope, pickup, reach, forwardLimit, reverseLimit, secondReach}
+use Rattle.settings.specs.Fields.{ends, slope, pickup, reach, forwardLimit, reverseLimit, secondReach, resistiveReach}
 use Rattle.direction.specs.declared.Direction.{Direction}
 use Rattle.direction.specs.declared.Direction.the-variants as direction
 use Rattle.direction.specs.Sequence.{negativeSequence}
 use Rattle.distance.specs.Constants.{replica}
-use Rattle.direction.specs.Direction.{reachesPickup, directionOf, directionNumber}
+use Rattle.direction.specs.Direction.{reachesPickup, isForward, directionNumber}
 use Rattle.distance.specs.declared.mho.Loop.{Loop}
 use Rattle.distance.specs.declared.mho.SixLoops.{SixLoops}
-use Rattle.distance.specs.Mho.{ratioOf, asserts, loopBits}
+use Rattle.distance.specs.Mho.{residual, ratioOf, asserts, loopBits}
 use Rattle.direction.specs.Laws.{PickupReached}
 use Rattle.direction.proofs.Laws.{pickup-reached, below-pickup, forward-rule, reverse-rule}
 use Rattle.distance.proofs.Laws.{mho-rule}
+use Rattle.quadrilateral.specs.Quadrilateral.{sees, seeing, quadrilateralsOf}
+use Rattle.quadrilateral.proofs.Laws.{quadrilateral-rule}
 use Rattle.differential.specs.Differential.{comparison, magnitude, operates, operatingBits, slopeOfChange}
 use Rattle.differential.proofs.Rule.{operates-rule}
 use Rattle.differential.proofs.SlopeOfChange.{changes, change-at-most-99}
-use Rattle.findings.specs.DecisionRecord.{isForward, allPhaseLoops, balancedFault}
-use Rattle.decision.specs.Decision.{voltages, currentsOfEnd1, findings, decisionLength, decision}
+use Rattle.findings.specs.DecisionRecord.{allPhaseLoops, balancedFault, phaseByte}
+use Rattle.decision.specs.Decision.{voltages, currentsOfEnd1, directionAt, quadrilateralsAt, findings, decisionLength, decision}
 use Rattle.gorsepetal.proofs.Good.{in-range}
-use Rattle.decision_claims.specs.Demand2.{phaseCurrents, squareOf, restraintOf, phaseFacts, ChangesAt, sixLoops, phaseLoopFacts, loopFacts, DirectionForward, Balanced, TripsBalanced, byte, wordAt, Tells, Demand2}
+use Rattle.decision_claims.specs.Demand2.{phaseCurrents, squareOf, restraintOf, phaseFacts, ChangesAt, sixLoops, phaseLoopFacts, loopFacts, DirectionForward, Balanced, Watching, SeesResistive, quadrilateralFacts, TripsBalanced, byte, wordAt, Tells, Demand2}
 use Rattle.claims.proofs.Decisions.{good, front}
 
 -- ---- 1 or 0, and the trip rule
@@ -62,6 +64,16 @@ both false y p q = (λ e. absurd (false≢true e), λ ab. p .1 (ab .0))
 fails : {A : Type 0} (x : Bool) → Exactly (x ≡ false) A → Exactly (not x ≡ true) A
 fails true p = (λ e. absurd (false≢true e), λ a. absurd (true≢false (p .1 a)))
 fails false p = (λ e. p .0 refl, λ a. refl)
+
+-- a number that is not 0
+pub on : (n : ℕ) → Exactly (not (eqb n 0) ≡ true) (n ≡ 0 → ⊥)
+on zero = (λ e. absurd (false≢true e), λ f. absurd (f refl))
+on (suc n) = (λ e z. omega arith, λ f. ap not (ne-eqb (suc n) 0 f))
+
+-- three bits that are kept, or none
+kept : (g x y z : Bool) → cond g (bits (x ∷ y ∷ z ∷ [])) 0 ≡ bits ((g && x) ∷ (g && y) ∷ (g && z) ∷ [])
+kept true x y z = refl
+kept false x y z = refl
 
 -- ---- the direction's number: each is that of its direction alone
 
@@ -183,21 +195,68 @@ module _ (s : List ℕ) (w : List ℤ) where
       let below : Exactly (not (reachesPickup s i2) ≡ true) (Balanced s w) = fails _ (below-pickup s i2) in
       both _ _ below (all-phase-loops (reach s))
 
+  -- byte 3
+  abbrev bearing : Direction
+  bearing = directionAt s (voltages s w) (currentsOfEnd1 s w)
+
+  ahead : Exactly (isForward bearing ≡ true) (DirectionForward s w)
+  ahead =
+      let forward = forward-rule s (negativeSequence (voltages s w)) i2 in
+      (λ t. forward .0 (forward-is bearing t), λ f. ap isForward (forward .1 f))
+
+  -- the quadrilaterals at a resistive reach: on and ahead, and then each
+  module _ (R : ℕ) where
+    abbrev pub watch : Bool
+    watch = not (eqb R 0) && isForward bearing
+
+    abbrev pub seen : Loop → Bool
+    seen l = sees (replica s) (pos (reach s)) R (residual (currentsOfEnd1 s w)) l
+
+    abbrev pub quadrilaterals : List Bool
+    quadrilaterals = (watch && seen (six .ag)) ∷ (watch && seen (six .bg)) ∷ (watch && seen (six .cg)) ∷ []
+
+    -- and the bits of byte 1
+    abbrev pub phase-list : List Bool
+    phase-list = operate ++ quadrilaterals
+
+  abbrev R : ℕ
+  R = resistiveReach s
+
+  sees-resistive : (l : Loop) → Exactly (watch R && seen R l ≡ true) (SeesResistive s w l)
+  sees-resistive l =
+      let watching : Exactly (watch R ≡ true) (Watching s w) = both _ _ (on R) ahead in
+      both (watch R) (seen R l) watching (quadrilateral-rule (replica s) (pos (reach s)) R (residual (currentsOfEnd1 s w)) l)
+
+  each-quadrilateral : Each (quadrilaterals R) (quadrilateralFacts s w)
+  each-quadrilateral = (sees-resistive (six .ag), (sees-resistive (six .bg), (sees-resistive (six .cg), tt)))
+
+  quadrilaterals-are : quadrilateralsAt s (voltages s w) (currentsOfEnd1 s w) ≡ bits (quadrilaterals R)
+  unfolding quadrilateralsOf seeing
+  quadrilaterals-are = kept (watch R) (seen R (six .ag)) (seen R (six .bg)) (seen R (six .cg))
+
+  pub phase-byte-is : phaseByte (bits operate) (quadrilateralsAt s (voltages s w) (currentsOfEnd1 s w)) ≡ bits (phase-list R)
+  phase-byte-is = ap (phaseByte (bits operate)) quadrilaterals-are ∙ three-and-more (operating 0) (operating 1) (operating 2) (quadrilaterals R)
+
+  each-of-six : Each (phase-list R) (phaseFacts s w ++ quadrilateralFacts s w)
+  each-of-six = let p = each-phase in (p .0, (p .1 .0, (p .1 .1 .0, each-quadrilateral)))
+
+  pub any-quadrilateral : Exactly (not (eqb (quadrilateralsAt s (voltages s w) (currentsOfEnd1 s w)) 0) ≡ true) (AnyOf (quadrilateralFacts s w))
+  any-quadrilateral = rw quadrilaterals-are (any-of (quadrilaterals R) (quadrilateralFacts s w) each-quadrilateral)
+
   tells : (rest : List ℕ) → forwardLimit s <ℤ reverseLimit s → Tells s w (decision s w ++ rest)
   unfolding findings operatingBits loopBits magnitude
   tells rest order =
       let v2 = negativeSequence (voltages s w) in
-      let d = directionOf s v2 i2 in
+      let d = bearing in
       let forward = forward-rule s v2 i2 in
       let reverse = reverse-rule s v2 i2 order in
-      let ahead : Exactly (isForward d ≡ true) (DirectionForward s w) = (λ t. forward .0 (forward-is d t), λ f. ap isForward (forward .1 f)) in
       let ahead-in-reach = both _ _ ahead (any-of (assert (reach s)) (loopFacts s w (reach s)) (each-loop (reach s))) in
-      let trips = either _ _ (any-of operate (phaseFacts s w) each-phase) (either _ _ ahead-in-reach trips-balanced) in
+      let trips = either _ _ (any-of operate (phaseFacts s w) each-phase) (either _ _ ahead-in-reach (either _ _ trips-balanced any-quadrilateral)) in
       record {
         trip = one _ trips;
         no-trip = nought _ trips;
-        phase-bits = bits-tell operate (phaseFacts s w) each-phase;
-        three-bits = let h = bits-most operate in omega (arith, h);
+        phase-bits = rw phase-byte-is (bits-tell (phase-list R) (phaseFacts s w ++ quadrilateralFacts s w) each-of-six);
+        three-and-three = let h = bits-most (phase-list R) in omega (arith, h, phase-byte-is);
         loop-bits = bits-tell (assert (reach s)) (loopFacts s w (reach s)) (each-loop (reach s));
         six-bits = few-bits (reach s);
         forward = (λ e. forward .0 (number-1 d e), λ f. ap directionNumber (forward .1 f));
@@ -218,6 +277,19 @@ not-reached s w below reached = true≢false (sym (pickup-reached s (i2 s w) .1 
 -- so a balanced fault has no direction
 pub reads-none : (s : List ℕ) (w : List ℤ) (d : List ℕ) → Tells s w d → Balanced s w → byte d 3 ≡ 0
 reads-none s w d told below = told .none .1 (λ forward. not-reached s w below (forward .0), λ reverse. not-reached s w below (reverse .0))
+
+-- a quadrilateral that sees a fault, and its bit
+pub which-quadrilateral : (s : List ℕ) (w : List ℤ) → AnyOf (quadrilateralFacts s w) → (l : Loop) × SeesResistive s w l
+which-quadrilateral s w (inl a) = (_, a)
+which-quadrilateral s w (inr (inl b)) = (_, b)
+which-quadrilateral s w (inr (inr (inl c))) = (_, c)
+which-quadrilateral s w (inr (inr (inr none))) = absurd none
+
+pub quadrilateral-bit : (s : List ℕ) (w : List ℤ) (d : List ℕ) → Tells s w d → AnyOf (quadrilateralFacts s w) → (k : ℕ) × (isSet (suc (suc (suc k))) (byte d 1) ≡ true)
+quadrilateral-bit s w d told (inl a) = (0, told .phase-bits .1 .1 .1 .0 .1 a)
+quadrilateral-bit s w d told (inr (inl b)) = (1, told .phase-bits .1 .1 .1 .1 .0 .1 b)
+quadrilateral-bit s w d told (inr (inr (inl c))) = (2, told .phase-bits .1 .1 .1 .1 .1 .0 .1 c)
+quadrilateral-bit s w d told (inr (inr (inr none))) = absurd none
 
 pub demand-2 : Demand2
 demand-2 s w out d c =

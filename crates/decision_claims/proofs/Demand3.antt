@@ -2,7 +2,7 @@
 use Prim.Native.Nat.{ℕ, zero, suc, _+_, _*_, _≤_, _<_}
 use mathlib.Core.Path.{_≡_, refl, sym, ap, subst, _∙_}
 use mathlib.Core.Logic.{inl, inr, ⊎-elim}
-use mathlib.Core.Bool.{true}
+use mathlib.Core.Bool.{true, false}
 use mathlib.Core.List.{List, _++_}
 use native.Mathlib.Nat.{le-refl}
 use native.Mathlib.Omega.{arith}
@@ -13,11 +13,11 @@ use Rattle.decision_claims.specs.Bits.{isSet, BitsTell, AnyOf}
 use Rattle.whole.specs.Round.{roundBy}
 use Rattle.whole.specs.Root.{floorRoot, rootUp}
 use Rattle.whole.specs.Sum.{sumOf}
-use Rattle.decision_claims.proofs.Bits.{bit-is, none-told}
+use Rattle.decision_claims.proofs.Bits.{bit-is, none-told, from-bit-3}
 use Rattle.plane.specs.Plane.{plus, minus, times, scaled, rounded, minusJ, dot, squaredMagnitude}
 use Rattle.phasors.specs.Sums.{withSample, sumTo, phasorOf}
 use Rattle.phasors.specs.Grid.{total}
-use Rattle.settings.specs.Fields.{ends, slope, pickup, reach}
+use Rattle.settings.specs.Fields.{ends, slope, pickup, reach, resistiveReach}
 use Rattle.settings.specs.Examples.{exampleRecord}
 use Rattle.differential.specs.Demand3.{band, NotBelow, Above, exactMagnitude, L}
 use Rattle.differential.specs.Differential.{square, endRestraint, restraint, comparison, operates, operatingBits}
@@ -26,19 +26,21 @@ use Rattle.differential.proofs.Bands.{first-at-any-rate, second-at-any-rate}
 use Rattle.direction.specs.Sequence.{turned, sequence}
 use Rattle.direction.specs.Direction.{reachesPickup, torque, sideOf, directionOf}
 use Rattle.distance.specs.Mho.{residual, kProduct, groundLoop, phaseLoop, loopsOf, mho, asserts, loopBits}
+use Rattle.quadrilateral.specs.Quadrilateral.{quadrilateralsOf}
 use Rattle.decision.specs.Decision.{rateOf, findings, decisionLength, decision}
 use Rattle.claims.specs.Decisions.{Decision}
 use Rattle.gorsepetal.proofs.Good.{in-range}
 use Rattle.decision_claims.specs.Demand2.{phaseCurrents, squareOf, OperatesAt, Operates, phaseFacts, ChangesAt, loopFacts, byte}
 use Rattle.decision_claims.specs.Demand3.{sums, Demand3First, Demand3Second, Demand3OfChange, TripHasReason, fault, through, FaultTrips, ThroughDoesNot, ThroughIsQuiet}
 use Rattle.claims.proofs.Decisions.{good, front}
-use Rattle.decision_claims.proofs.Demand2.{for-three, operating, operate, reads-none, demand-2}
+use Rattle.decision_claims.proofs.Demand2.{for-three, operating, phase-list, phase-byte-is, quadrilateral-bit, which-quadrilateral, reads-none, demand-2}
 
 -- the bit of a phase in a decision
 bit : (s : List ℕ) (w : List ℤ) (rest : List ℕ) (p : ℕ) → p < 3 → isSet p (byte (decision s w ++ rest) 1) ≡ operating s w p
 unfolding findings operatingBits
 bit s w rest =
-    let is = bit-is (operate s w) in for-three (λ p. isSet p (byte (decision s w ++ rest) 1) ≡ operating s w p) (is 0) (is 1) (is 2)
+    let is : (p : ℕ) → isSet p (byte (decision s w ++ rest) 1) ≡ getD (phase-list s w (resistiveReach s)) p false = λ p. ap (isSet p) (phase-byte-is s w) ∙ bit-is (phase-list s w (resistiveReach s)) p in
+    for-three (λ p. isSet p (byte (decision s w ++ rest) 1) ≡ operating s w p) (is 0) (is 1) (is 2)
 
 -- a phase that operates is one of the three
 among : (s : List ℕ) (w : List ℤ) (p : ℕ) → p < 3 → Operates s w p → AnyOf (phaseFacts s w)
@@ -106,8 +108,10 @@ trip-has-reason r w out d c tripped =
     (λ any. let p = which r w any in let set = bit-set r w out d c (p .0) (p .1) (p .2) in inl (p .0, p .1, set, demand-3-first r w out d (p .0) (p .1) c set))
     (⊎-elim
     (λ ahead. inr (inl (told .forward .1 (ahead .0), λ none. none-told 0 (loopFacts r w (reach r)) (subst (λ n. BitsTell n 0 (loopFacts r w (reach r))) none (told .loop-bits)) (ahead .1))))
+    (⊎-elim
     (λ balanced. let three = told .loop-bits .1 .1 .1 in let all = balanced .1 in
-    inr (inr (balanced .0, reads-none r w d told (balanced .0), (three .0 .1 (all .0), (three .1 .0 .1 (all .1 .0), (three .1 .1 .0 .1 (all .1 .1 .0), tt)))))))
+    inr (inr (inl (balanced .0, reads-none r w d told (balanced .0), (three .0 .1 (all .0), (three .1 .0 .1 (all .1 .0), (three .1 .1 .0 .1 (all .1 .1 .0), tt)))))))
+    (λ any. inr (inr (inr (told .forward .1 (which-quadrilateral r w any .1 .0 .1), let bit = quadrilateral-bit r w d told any in from-bit-3 (bit .0) (byte d 1) (bit .1)))))))
     (told .trip .0 tripped)
 
 -- ---- the two windows
@@ -135,7 +139,7 @@ through-does-not out d c set = through-below (demand-3-first exampleRecord throu
 quiet : getD (decision exampleRecord through) 0 0 ≡ 0
 unfolding
     findings operatingBits operates square restraint endRestraint rootUp floorRoot sumOf total plus minus times scaled dot squaredMagnitude rounded roundBy minusJ
-    phasorOf sumTo withSample sequence turned residual kProduct groundLoop phaseLoop loopsOf loopBits asserts mho reachesPickup torque sideOf directionOf
+    phasorOf sumTo withSample sequence turned residual kProduct groundLoop phaseLoop loopsOf loopBits asserts mho reachesPickup torque sideOf directionOf quadrilateralsOf
 quiet = refl
 
 pub through-is-quiet : ThroughIsQuiet

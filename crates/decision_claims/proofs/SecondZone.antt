@@ -1,12 +1,10 @@
 -- The second zone has what the first has, since its reach is not below; all that a decision says but byte 4 is read from the other bytes of
 -- the record; and a second reach of zero is two spare bytes.
-use Prim.Native.Nat.{ℕ, zero, suc}
+use Prim.Native.Nat.{ℕ}
 use mathlib.Core.Path.{_≡_, refl, sym, ap, _∙_}
 use mathlib.Core.Logic.{⊎-elim}
-use mathlib.Core.List.{List, [], _∷_, _++_}
-use mathlib.Core.Bool.{Bool, true, false, cond, false≢true}
-use native.Mathlib.Omega.{arith}
-use borrow.Author.Needs.{needs}
+use mathlib.Core.List.{List, _∷_, _++_}
+use mathlib.Core.Bool.{true}
 use borrow.Author.Tests.{ne-eqb}
 use lib.IntN.{ℤ, pos}
 use lib.ListN.{getD, drop}
@@ -14,15 +12,13 @@ use lib.Seq.{getD-set-other}
 use lib.Signed.{_≤ℤ_}
 use Rattle.whole.specs.Bits.{bits}
 use Rattle.whole.proofs.Order.{le-ℤ}
-use Rattle.settings.specs.declared.Checked.the-variants.{Bad}
-use Rattle.settings.specs.Table.{Rule, Byte, offsetOf, secondReachRow, differentialRows, distanceRows, angleRows, directionRows, tailRows, spareRows, settingsTable}
-use Rattle.settings.specs.Check.{holds, checkedBy, checked}
-use Rattle.settings.specs.Fields.{Keeps, reach, secondReach}
-use Rattle.settings.proofs.Good.{all-kept}
+use Rattle.settings.specs.Table.{secondReachRow, resistiveReachRow, differentialRows, distanceRows, angleRows, directionRows, spareRows, settingsTable}
+use Rattle.settings.specs.Fields.{reach, secondReach}
 use Rattle.distance.specs.declared.mho.Ratio.{Ratio}
 use Rattle.direction.specs.Direction.{reachesPickup, directionOf}
 use Rattle.distance.specs.Mho.{asserts, loopBits}
 use Rattle.distance.proofs.Laws.{larger-reach}
+use Rattle.quadrilateral.specs.Quadrilateral.{quadrilateralsOf}
 use Rattle.findings.specs.declared.Findings.{Findings}
 use Rattle.findings.specs.DecisionRecord.{decisionBytes}
 use Rattle.decision.specs.Decision.{findings, decisionLength}
@@ -30,25 +26,13 @@ use Rattle.gorsepetal.proofs.Good.{in-range}
 use Rattle.decision_claims.specs.Bits.{isSet}
 use Rattle.decision_claims.specs.Demand2.{byte}
 use Rattle.decision_claims.specs.Alike.{SameBut}
-use Rattle.decision_claims.specs.SecondZone.{SecondZoneHasFirst, OtherBytesStay, tableBefore, RecordsFromBefore}
-use Rattle.decision_claims.proofs.Bits.{bit-is}
+use Rattle.decision_claims.specs.SecondZone.{SecondZoneHasFirst, OtherBytesStay, RecordsFromBefore}
+use Rattle.decision_claims.proofs.Bits.{bits-lead}
 use Rattle.claims.proofs.Decisions.{good, front}
-use Rattle.decision_claims.proofs.Alike.{same-field}
+use Rattle.decision_claims.proofs.Alike.{same-field, from-before}
 use Rattle.decision_claims.proofs.Demand2.{assert, second}
 
 -- ---- the second zone has what the first has
-
--- each yes of a list is one of another
-abbrev Leads : List Bool → List Bool → Type 0
-Leads [] cs = Unit {0}
-Leads (b ∷ bs) [] = ⊥
-Leads (b ∷ bs) (c ∷ cs) = (b ≡ true → c ≡ true) × Leads bs cs
-
-led : (bs cs : List Bool) → Leads bs cs → (k : ℕ) → getD bs k false ≡ true → getD cs k false ≡ true
-led [] cs h k t = absurd (false≢true t)
-led (b ∷ bs) [] h k t = absurd h
-led (b ∷ bs) (c ∷ cs) h zero t = h .0 t
-led (b ∷ bs) (c ∷ cs) h (suc k) t = led bs cs (h .1) k t
 
 pub second-zone-has-first : SecondZoneHasFirst
 unfolding findings loopBits
@@ -60,24 +44,23 @@ second-zone-has-first s w out d c on k t =
     let further = assert s w (secondReach s) in
     let set : isSet k (bits first) ≡ true = sym (ap (λ x. isSet k (byte x 2)) (front c)) ∙ t in
     let seen : byte d 4 ≡ bits further = ap (λ x. byte x 4) (front c) ∙ ap (second s w) (ne-eqb (secondReach s) 0 on) in
-    ap (isSet k) seen ∙ bit-is further k
-    ∙ led first further (more _, (more _, (more _, (more _, (more _, (more _, tt)))))) k (sym (bit-is first k) ∙ set)
+    ap (isSet k) seen ∙ bits-lead first further (more _, (more _, (more _, (more _, (more _, (more _, tt)))))) k set
 
 -- ---- all bytes of a decision but byte 4
 
 -- what was found, with nothing in the second zone
 abbrev unlit : Findings → Findings
-unlit f = record { operating = f .operating; asserting = f .asserting; overreaching = 0; unbalanced = f .unbalanced; direction = f .direction; changes = f .changes; comparisons = f .comparisons }
+unlit f = record { operating = f .operating; quadrilaterals = f .quadrilaterals; asserting = f .asserting; overreaching = 0; unbalanced = f .unbalanced; direction = f .direction; changes = f .changes; comparisons = f .comparisons }
 
 but-4 : (f : Findings) (rest : List ℕ) (k : ℕ) → (k ≡ 4 → ⊥) → getD (decisionBytes f ++ rest) k 0 ≡ getD (decisionBytes (unlit f) ++ rest) k 0
 but-4 f rest k n = sym (getD-set-other (decisionBytes f ++ rest) 4 k 0 0 n)
 
 same-findings : (s t : List ℕ) → SameBut secondReachRow s t → (w : List ℤ) → unlit (findings s w) ≡ unlit (findings t w)
-unfolding findings directionOf reachesPickup
+unfolding findings directionOf reachesPickup quadrilateralsOf
 same-findings s t h w =
     let same = same-field secondReachRow s t h in
     rw (same 0 refl, same 2 refl, same 4 refl, same 6 refl, same 8 refl, same 10 refl)
-    (rw (same 12 refl, same 14 refl, same 16 refl, same 18 refl, same 20 refl, same 22 refl, same 24 refl))
+    (rw (same 12 refl, same 14 refl, same 16 refl, same 18 refl, same 20 refl, same 22 refl, same 24 refl, same 28 refl))
 
 pub other-bytes-stay : OtherBytesStay
 other-bytes-stay s t w out d e h c b k n =
@@ -87,30 +70,7 @@ other-bytes-stay s t w out d e h c b k n =
 
 -- ---- records from before
 
--- rules in front of two lists that find the same
-behind : (rs ts us : List Rule) (s : List ℕ) → checkedBy ts s ≡ checkedBy us s → checkedBy (rs ++ ts) s ≡ checkedBy (rs ++ us) s
-unfolding checkedBy
-behind [] ts us s e = e
-behind (r ∷ rs) ts us s e = ap (λ x. cond (holds s r) x (Bad (offsetOf r))) (behind rs ts us s e)
-
-spare-alike : (s : List ℕ) → getD s 26 0 ≡ 0 → getD s 27 0 ≡ 0 → checkedBy tailRows s ≡ checkedBy (Byte 26 0 0 ∷ Byte 27 0 0 ∷ spareRows) s
-unfolding checkedBy
-spare-alike s high low = rw (high, low)
-
-found-alike : (s : List ℕ) → getD s 26 0 ≡ 0 → getD s 27 0 ≡ 0 → checked s ≡ checkedBy tableBefore s
-unfolding settingsTable
-found-alike s high low = behind (differentialRows ++ distanceRows ++ angleRows ++ directionRows) tailRows (Byte 26 0 0 ∷ Byte 27 0 0 ∷ spareRows) s (spare-alike s high low)
-
 pub records-from-before : RecordsFromBefore
+unfolding settingsTable
 records-from-before =
-    record {
-      found-alike = found-alike;
-      good-before = λ s. (
-        λ g.
-            let kept = all-kept tableBefore s g in
-            let high : Keeps s (Byte 26 0 0) = search needs in
-            let low : Keeps s (Byte 27 0 0) = search needs in
-            (found-alike s (omega (arith, high .most)) (omega (arith, low .most)) ∙ g, omega (arith, high .most, low .most)),
-        λ h. sym (found-alike s (omega (arith, h .1)) (omega (arith, h .1))) ∙ h .0,
-      );
-    }
+    from-before secondReachRow (differentialRows ++ distanceRows ++ angleRows ++ directionRows) (resistiveReachRow ∷ spareRows) refl (λ s z. rw z)

@@ -12,12 +12,13 @@ use Rattle.settings.specs.Fields.{reach}
 use Rattle.direction.specs.Sequence.{positiveSequence, negativeSequence}
 use Rattle.direction.specs.Laws.{PickupReached}
 use Rattle.findings.specs.declared.Findings.{Findings}
-use Rattle.findings.specs.DecisionRecord.{any, isForward}
+use Rattle.direction.specs.Direction.{isForward}
+use Rattle.findings.specs.DecisionRecord.{any, phaseByte}
 use Rattle.decision.specs.Decision.{voltages, currentsOfEnd1, findings}
 use Rattle.decision_claims.specs.Bits.{AnyOf, AllOf}
 use Rattle.decision_claims.specs.Alike.{recordWith}
 use Rattle.claims.specs.Decisions.{Decision}
-use Rattle.decision_claims.specs.Demand2.{phaseFacts, phaseLoopFacts, Balanced, byte}
+use Rattle.decision_claims.specs.Demand2.{phaseFacts, phaseLoopFacts, quadrilateralFacts, Balanced, byte}
 
 -- ---- the new rule
 
@@ -34,17 +35,21 @@ BetweenLimits =
     (s : List ℕ) (w : List ℤ) (out d : List ℕ) → Decision s w out d
     → PickupReached s (negativeSequence (currentsOfEnd1 s w)) → byte d 3 ≡ 0 → Exactly (byte d 0 ≡ 1) (AnyOf (phaseFacts s w))
 
--- A limit of the rule, without polarising memory: where 3V1 is zero no loop asserts in either zone, and only a phase that operates trips.
+-- A limit of the rule, without polarising memory: where 3V1 is zero no loop asserts in either zone, and only a phase that operates trips, or a
+-- quadrilateral, which is not polarised by a voltage (CR 7).
 abbrev pub NoVoltage : Type 0
 NoVoltage =
     (s : List ℕ) (w : List ℤ) (out d : List ℕ) → Decision s w out d → positiveSequence (voltages s w) ≡ zero
-    → (byte d 2 ≡ 0) × (byte d 4 ≡ 0) × Exactly (byte d 0 ≡ 1) (AnyOf (phaseFacts s w))
+    → (byte d 2 ≡ 0) × (byte d 4 ≡ 0) × Exactly (byte d 0 ≡ 1) (AnyOf (phaseFacts s w) ⊎ AnyOf (quadrilateralFacts s w))
 
 -- ---- what it does not move
 
--- The decision without this rule: "1 if any phase operates, or direction is forward and any loop asserts; else 0", and the other bytes.
+-- The decision without this rule: "1 if any phase operates, or direction is forward and any loop asserts; else 0", or where a quadrilateral
+-- sees a fault; and the other bytes.
 abbrev pub bytesBefore : Findings → List ℕ
-bytesBefore f = recordWith (cond (any (f .operating) || (isForward (f .direction) && any (f .asserting))) 1 0) (f .changes) f
+bytesBefore f =
+    recordWith (cond (any (f .operating) || ((isForward (f .direction) && any (f .asserting)) || any (f .quadrilaterals))) 1 0)
+    (phaseByte (f .operating) (f .quadrilaterals)) (f .changes) f
 
 abbrev pub before : List ℕ → List ℤ → ℕ → ℕ
 before s w k = byte (bytesBefore (findings s w)) k

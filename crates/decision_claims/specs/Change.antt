@@ -1,6 +1,6 @@
 -- Document 02, CR 6: the slope at which it changes, and what the request does not move. s is the settings record in force, w the window's
 -- numbers, d what the buffer holds after the call, and phases a, b, c are 0, 1, 2.
-use Prim.Native.Nat.{ℕ, _+_, _≤_, _<_}
+use Prim.Native.Nat.{ℕ, _+_, _/_, _≤_, _<_}
 use mathlib.Core.Path.{_≡_}
 use mathlib.Core.Logic.{_⊎_}
 use mathlib.Core.List.{List, [], _∷_}
@@ -11,12 +11,12 @@ use Rattle.settings.specs.Table.{slopeRow}
 use Rattle.settings.specs.Fields.{slope}
 use Rattle.differential.specs.declared.change.Changes.{Changes}
 use Rattle.findings.specs.declared.Findings.{Findings}
-use Rattle.findings.specs.DecisionRecord.{trip}
+use Rattle.findings.specs.DecisionRecord.{trip, phaseByte}
 use Rattle.decision.specs.Decision.{findings}
 use Rattle.decision_claims.specs.Bits.{isSet, AnyOf}
 use Rattle.decision_claims.specs.Alike.{SameBut, recordWith}
 use Rattle.claims.specs.Decisions.{Decision}
-use Rattle.decision_claims.specs.Demand2.{ChangesAt, TripsForward, TripsBalanced, byte}
+use Rattle.decision_claims.specs.Demand2.{ChangesAt, TripsByDistance, byte}
 
 -- "Prove that one such number exists for each window and that it is the one written": it, and no other.
 abbrev pub OneChange : Type 0
@@ -34,9 +34,9 @@ pub record HowFarOff (s t : List ℕ) (w : List ℤ) (d e : List ℕ) : Type 0 w
   -- which phases operate
   pub phases : (p : ℕ) → p < 3 → Exactly (isSet p (byte e 1) ≡ true) (slope t ≤ byte d (5 + p))
   -- whether it trips: by a phase, or by distance, which the slope does not touch
-  pub trips :
-      Exactly (byte e 0 ≡ 1) (AnyOf ((slope t ≤ byte d 5) ∷ (slope t ≤ byte d 6) ∷ (slope t ≤ byte d 7) ∷ []) ⊎ (TripsForward s w ⊎ TripsBalanced s w))
-  -- and the other bytes are the same
+  pub trips : Exactly (byte e 0 ≡ 1) (AnyOf ((slope t ≤ byte d 5) ∷ (slope t ≤ byte d 6) ∷ (slope t ≤ byte d 7) ∷ []) ⊎ TripsByDistance s w)
+  -- and the quadrilaterals and the other bytes are the same
+  pub quadrilaterals : byte d 1 / 8 ≡ byte e 1 / 8
   pub others : (k : ℕ) → 2 ≤ k → byte d k ≡ byte e k
 
 abbrev pub AtAnotherSlope : Type 0
@@ -50,7 +50,8 @@ abbrev pub none : Changes
 none = record { a = 0; b = 0; c = 0 }
 
 abbrev pub bytesBefore : Findings → List ℕ
-bytesBefore f = recordWith (trip (f .operating) (f .asserting) (f .direction) (f .unbalanced)) none f
+bytesBefore f =
+    recordWith (trip (f .operating) (f .quadrilaterals) (f .asserting) (f .direction) (f .unbalanced)) (phaseByte (f .operating) (f .quadrilaterals)) none f
 
 abbrev pub ChangeMovesThree : Type 0
 ChangeMovesThree =

@@ -1,10 +1,10 @@
 -- Demand 2 (document 01, "Decision record"; document 02, CR 2, "All demands cover both zones", CR 4, "The trip line in the decision
--- table is amended", and CR 6): every quantity in a decision equals its definition. In all definitions s is the settings record in force, w
+-- table is amended", CR 6, and CR 7, "any of them sets trip"): every quantity in a decision equals its definition. In all definitions s is the settings record in force, w
 -- the window's numbers, d what the buffer holds after the call, and phases a, b, c are 0, 1, 2.
 use Prim.Native.Nat.{ℕ, _+_, _*_, _≤_, _<_}
 use mathlib.Core.Path.{_≡_}
 use mathlib.Core.Logic.{_⊎_}
-use mathlib.Core.List.{List, [], _∷_}
+use mathlib.Core.List.{List, [], _∷_, _++_}
 use lib.IntN.{ℤ, pos}
 use lib.ListN.{drop, getD}
 use Rattle.whole.specs.Exactly.{Exactly}
@@ -12,14 +12,15 @@ use Rattle.whole.specs.Root.{floorRoot}
 use Rattle.decision_claims.specs.Bits.{BitsTell, AnyOf, AllOf}
 use Rattle.plane.specs.declared.Phasor.{Phasor}
 use Rattle.phasors.specs.Grid.{current}
-use Rattle.settings.specs.Fields.{ends, slope, pickup, reach, secondReach}
+use Rattle.settings.specs.Fields.{ends, slope, pickup, reach, secondReach, resistiveReach}
 use Rattle.direction.specs.Sequence.{negativeSequence}
 use Rattle.distance.specs.Constants.{replica}
 use Rattle.distance.specs.declared.mho.Loop.{Loop}
 use Rattle.distance.specs.declared.mho.SixLoops.{SixLoops}
-use Rattle.distance.specs.Mho.{ratioOf}
+use Rattle.distance.specs.Mho.{residual, ratioOf}
 use Rattle.direction.specs.Laws.{PickupReached, BelowPickup, BelowForward, AboveReverse}
 use Rattle.distance.specs.Laws.{WithinReach}
+use Rattle.quadrilateral.specs.Laws.{Seen}
 use Rattle.differential.specs.Differential.{square, restraint, comparison}
 use Rattle.differential.specs.Laws.{OperatesBy, ExactlyUpTo}
 use Rattle.decision.specs.Decision.{decisionLength, rateOf, voltages, currentsOfEnd1, loopsAt}
@@ -81,6 +82,19 @@ DirectionReverse s w = PickupReached s (negativeSequence (currentsOfEnd1 s w)) �
 abbrev pub Balanced : List ℕ → List ℤ → Type 0
 Balanced s w = BelowPickup s (negativeSequence (currentsOfEnd1 s w))
 
+-- "0 is off" and "Direction must be forward" (document 02, CR 7)
+abbrev pub Watching : List ℕ → List ℤ → Type 0
+Watching s w = (resistiveReach s ≡ 0 → ⊥) × DirectionForward s w
+
+-- and "Im[(rZI - V) Ir*] > 0", with the first reach; "q is not zero and ten times |n| is at most R times |q|"
+abbrev pub SeesResistive : List ℕ → List ℤ → Loop → Type 0
+SeesResistive s w l = Watching s w × Seen (replica s) (pos (reach s)) (resistiveReach s) (residual (currentsOfEnd1 s w)) l
+
+-- of A, B and C
+abbrev pub quadrilateralFacts : List ℕ → List ℤ → List (Type 0)
+quadrilateralFacts s w =
+    SeesResistive s w (sixLoops s w .ag) ∷ SeesResistive s w (sixLoops s w .bg) ∷ SeesResistive s w (sixLoops s w .cg) ∷ []
+
 -- "direction is forward and any loop asserts", at the first reach: the second zone "does not trip"
 abbrev pub TripsForward : List ℕ → List ℤ → Type 0
 TripsForward s w = DirectionForward s w × AnyOf (loopFacts s w (reach s))
@@ -89,9 +103,13 @@ TripsForward s w = DirectionForward s w × AnyOf (loopFacts s w (reach s))
 abbrev pub TripsBalanced : List ℕ → List ℤ → Type 0
 TripsBalanced s w = Balanced s w × AllOf (phaseLoopFacts s w (reach s))
 
--- "any phase operates", or one of these two
+-- by the loops: one of these two, or a quadrilateral
+abbrev pub TripsByDistance : List ℕ → List ℤ → Type 0
+TripsByDistance s w = TripsForward s w ⊎ (TripsBalanced s w ⊎ AnyOf (quadrilateralFacts s w))
+
+-- "any phase operates", or one of these
 abbrev pub Trips : List ℕ → List ℤ → Type 0
-Trips s w = AnyOf (phaseFacts s w) ⊎ (TripsForward s w ⊎ TripsBalanced s w)
+Trips s w = AnyOf (phaseFacts s w) ⊎ TripsByDistance s w
 
 -- ---- and what the bytes of a decision tell of it
 
@@ -106,9 +124,9 @@ pub record Tells (s : List ℕ) (w : List ℤ) (d : List ℕ) : Type 0 where
   -- byte 0: 1, else 0
   pub trip : Exactly (byte d 0 ≡ 1) (Trips s w)
   pub no-trip : Exactly (byte d 0 ≡ 0) (Trips s w → ⊥)
-  -- byte 1: "phases a=1, b=2, c=4"
-  pub phase-bits : BitsTell (byte d 1) 0 (phaseFacts s w)
-  pub three-bits : byte d 1 < 8
+  -- byte 1: "phases a=1, b=2, c=4", and "Bits 8, 16 and 32 .. report A, B and C" (document 02, CR 7)
+  pub phase-bits : BitsTell (byte d 1) 0 (phaseFacts s w ++ quadrilateralFacts s w)
+  pub three-and-three : byte d 1 < 64
   -- byte 2: "loops AG 1, BG 2, CG 4, AB 8, BC 16, CA 32"
   pub loop-bits : BitsTell (byte d 2) 0 (loopFacts s w (reach s))
   pub six-bits : byte d 2 < 64

@@ -44,13 +44,14 @@ Demand3OfChange =
     × (pickup r * pickup r ≤ squareOf r w p → (m : ℕ) → 1 ≤ m → Above band (byte d (5 + p) + 1) (ends r) (sums r w p) m → ⊥)
 
 -- So a trip has its reason: a phase whose bit is set, which the first half allows; or a fault ahead in which a loop asserts; or a balanced
--- fault, which has no direction, in which AB, BC and CA assert (document 02, CR 4).
+-- fault, which has no direction, in which AB, BC and CA assert (document 02, CR 4); or a fault ahead that a quadrilateral sees (CR 7).
 abbrev pub TripHasReason : Type 0
 TripHasReason =
     (r : List ℕ) (w : List ℤ) (out d : List ℕ) → Decision r w out d → byte d 0 ≡ 1
     → ((p : ℕ) × (p < 3) × (isSet p (byte d 1) ≡ true) × NotBelow band (slope r) (ends r) (sums r w p))
     ⊎ (((byte d 3 ≡ 1) × (byte d 2 ≡ 0 → ⊥))
-    ⊎ (Balanced r w × (byte d 3 ≡ 0) × AllOf (map (λ k. isSet k (byte d 2) ≡ true) (3 ∷ 4 ∷ 5 ∷ []))))
+    ⊎ ((Balanced r w × (byte d 3 ≡ 0) × AllOf (map (λ k. isSet k (byte d 2) ≡ true) (3 ∷ 4 ∷ 5 ∷ [])))
+    ⊎ ((byte d 3 ≡ 1) × (8 ≤ byte d 1))))
 
 -- ---- neither half is empty, by two windows of two ends and the record of document 01's "Window program": slope 15, pickup 100
 

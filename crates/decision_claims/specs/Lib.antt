@@ -5,4 +5,5 @@ pub mod Alike
 pub mod SecondZone
 pub mod Balanced
 pub mod Change
+pub mod Quadrilaterals
 pub mod Demand3

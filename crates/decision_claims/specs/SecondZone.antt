@@ -5,14 +5,10 @@ use mathlib.Core.Path.{_≡_}
 use mathlib.Core.List.{List, _∷_, _++_}
 use mathlib.Core.Bool.{true}
 use lib.IntN.{ℤ}
-use lib.ListN.{getD}
-use Rattle.whole.specs.Exactly.{Exactly}
-use Rattle.settings.specs.declared.Checked.the-variants.{Good}
-use Rattle.settings.specs.Table.{Rule, Byte, secondReachRow, differentialRows, distanceRows, angleRows, directionRows, spareRows}
-use Rattle.settings.specs.Check.{checkedBy, checked}
+use Rattle.settings.specs.Table.{Rule, Byte, secondReachRow, resistiveReachRow, differentialRows, distanceRows, angleRows, directionRows, spareRows}
 use Rattle.settings.specs.Fields.{secondReach}
 use Rattle.decision_claims.specs.Bits.{isSet}
-use Rattle.decision_claims.specs.Alike.{SameBut}
+use Rattle.decision_claims.specs.Alike.{SameBut, FromBefore}
 use Rattle.claims.specs.Decisions.{Decision}
 use Rattle.decision_claims.specs.Demand2.{byte}
 
@@ -28,13 +24,9 @@ OtherBytesStay =
     (s t : List ℕ) (w : List ℤ) (out d e : List ℕ) → SameBut secondReachRow s t → Decision s w out d → Decision t w out e
     → (k : ℕ) → (k ≡ 4 → ⊥) → byte d k ≡ byte e k
 
--- The table before: bytes 26 to 31 all spare.
+-- "Records from before read as off": bytes 26 and 27 were spare.
 abbrev pub tableBefore : List Rule
-tableBefore = differentialRows ++ distanceRows ++ angleRows ++ directionRows ++ Byte 26 0 0 ∷ Byte 27 0 0 ∷ spareRows
+tableBefore = differentialRows ++ distanceRows ++ angleRows ++ directionRows ++ Byte 26 0 0 ∷ Byte 27 0 0 ∷ resistiveReachRow ∷ spareRows
 
--- "Records from before read as off."
-pub record RecordsFromBefore : Type 0 where
-  -- a record whose bytes 26 and 27 are zero is found as before: good, or bad at the same place
-  pub found-alike : (s : List ℕ) → getD s 26 0 ≡ 0 → getD s 27 0 ≡ 0 → checked s ≡ checkedBy tableBefore s
-  -- and a record was good before exactly if it is good and its second zone is off
-  pub good-before : (s : List ℕ) → Exactly (checkedBy tableBefore s ≡ Good) ((checked s ≡ Good) × (secondReach s ≡ 0))
+abbrev pub RecordsFromBefore : Type 0
+RecordsFromBefore = FromBefore secondReachRow tableBefore

@@ -12,7 +12,6 @@ ghost use Rattle.settings.specs.Fields.{Ranges, slope, pickup};
 ghost use Rattle.differential.specs.Differential.{endRestraint, comparison, comparisons, magnitude, operates, operatingBits};
 ghost use Rattle.differential.specs.Sizes.{Sized, AllSized, endMost, restraintMost};
 use plane::Phasor;
-use whole::bit_before;
 
 // A magnitude in sixty-fourths of a count has 4096 times the square.
 const SIXTY_FOURTHS_SQUARED: u64 = 4096;
@@ -88,12 +87,12 @@ pub fn operates(slope: u64, pickup: u64, x: Comparison) -> bool
 // The phases that operate by a good settings record: a 1, b 2, c 4.
 pub fn operating_bits(s: &[u8], x: Comparisons) -> u8
     requires { ⌜ Ranges (now s) × AllSized x ⌝ }
-    ensures { λ r. ⌜ r ≡ operatingBits (slope (now (s .entry))) (pickup (now (s .entry))) x ⌝ }
+    ensures { λ r. ⌜ (r ≡ operatingBits (slope (now (s .entry))) (pickup (now (s .entry))) x) × (r < 8) ⌝ }
 {
     let slope = settings::fields::slope(s);
     let pickup = settings::fields::pickup(s);
     let a = operates(slope, pickup, x.a);
     let b = operates(slope, pickup, x.b);
     let c = operates(slope, pickup, x.c);
-    bit_before(a, bit_before(b, bit_before(c, 0)))
+    whole::three_bits(a, b, c)
 }

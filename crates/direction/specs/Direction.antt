@@ -1,7 +1,7 @@
 -- Document 01, "Sequence quantities and direction" (source document 002, the negative-sequence element): which way the fault is.
 use Prim.Native.Nat.{ℕ}
 use mathlib.Core.List.{List}
-use mathlib.Core.Bool.{Bool, cond}
+use mathlib.Core.Bool.{Bool, true, false, cond}
 use lib.IntN.{ℤ, pos, _*ℤ_}
 use lib.Signed.{ltZ, leZ}
 use Rattle.settings.specs.Fields.{angleReal, angleImaginary, forwardLimit, reverseLimit, negativeSequencePickup}
@@ -33,6 +33,12 @@ sideOf zf zr t square = cond (ltZ t (zf *ℤ square)) Forward (cond (ltZ (zr *�
 unfoldable pub directionOf : List ℕ → Phasor → Phasor → Direction
 directionOf s v2 i2 =
     cond (reachesPickup s i2) (sideOf (forwardLimit s) (reverseLimit s) (torque (angle s) v2 i2) (squared i2)) None
+
+-- "direction is forward"
+abbrev pub isForward : Direction → Bool
+isForward None = false
+isForward Forward = true
+isForward Reverse = false
 
 -- Document 01, "Decision record": "0 none, 1 forward, 2 reverse"
 abbrev pub directionNumber : Direction → ℕ

@@ -6,7 +6,7 @@ ghost use Rattle.plane.specs.Sizes.{Inside};
 ghost use Rattle.settings.specs.Table.{mostAngle, mostLimit};
 ghost use Rattle.settings.specs.Fields.{Ranges};
 ghost use Rattle.direction.specs.Sizes.{sequenceSize, squareSize};
-ghost use Rattle.direction.specs.Direction.{angle, reachesPickup, torque, sideOf, directionOf, directionNumber};
+ghost use Rattle.direction.specs.Direction.{angle, reachesPickup, torque, sideOf, directionOf, isForward, directionNumber};
 use plane::Phasor;
 
 pub mod sequence; // 3V1, 3V2, 3I2
@@ -34,6 +34,17 @@ pub fn number(d: Direction) -> u8
         Direction::None => 0,
         Direction::Forward => 1,
         Direction::Reverse => 2,
+    }
+}
+
+// Whether a fault lies ahead.
+pub fn is_forward(d: Direction) -> bool
+    ensures { λ r. ⌜ r ≡ isForward d ⌝ }
+{
+    match d {
+        Direction::None => false,
+        Direction::Forward => true,
+        Direction::Reverse => false,
     }
 }
 

@@ -14,7 +14,6 @@ use crate::constants;
 use direction::sequence;
 use plane::Phases;
 use plane::Phasor;
-use whole::bit_before;
 
 // A loop: its voltage, its current and its polarising quantity.
 pub struct Loop {
@@ -162,13 +161,7 @@ fn asserts(r: i64, q: Ratio) -> bool
 fn six_bits(ag: bool, bg: bool, cg: bool, ab: bool, bc: bool, ca: bool) -> u8
     ensures { λ x. ⌜ x ≡ bits (ag ∷ bg ∷ cg ∷ ab ∷ bc ∷ ca ∷ []) ⌝ }
 {
-    bit_before(
-        ag,
-        bit_before(
-            bg,
-            bit_before(cg, bit_before(ab, bit_before(bc, bit_before(ca, 0)))),
-        ),
-    )
+    whole::six_bits(whole::three_bits(ag, bg, cg), whole::three_bits(ab, bc, ca))
 }
 
 // A loop in two zones, at reach r and at reach r2: its n and m are formed once.

@@ -1,2 +1,3 @@
 -- The decision record: the trip rule, and the 32 bytes.
 pub mod DecisionRecord
+pub mod Sizes

@@ -4,8 +4,8 @@ ghost use Prim.Native.Nat.{_+_, _<_, _≤_, _^_};
 ghost use mathlib.Core.List.{_∷_};
 ghost use lib.ListN.{replicate};
 ghost use Rattle.lent.specs.Lent.{over};
-ghost use Rattle.differential.specs.Sizes.{AllSized};
 ghost use Rattle.findings.specs.DecisionRecord.{balancedFault, trip, word, decisionBytes};
+ghost use Rattle.findings.specs.Sizes.{FindingsSized};
 use differential::Comparisons;
 use differential::change::Changes;
 use direction::Direction;
@@ -22,6 +22,8 @@ const NO_TRIP: u8 = 0;
 pub struct Findings {
     // the phases that operate: a 1, b 2, c 4
     pub operating: u8,
+    // the quadrilateral ground loops that see a fault ahead: A 1, B 2, C 4 (document 02, CR 7)
+    pub quadrilaterals: u8,
     // the loops that assert: AG 1, BG 2, CG 4, AB 8, BC 16, CA 32
     pub asserting: u8,
     // the loops that assert at the second reach, in the same order; 0 where it is off (document 02, CR 2)
@@ -44,19 +46,28 @@ fn balanced_fault(asserting: u8, unbalanced: bool) -> bool
 }
 
 // The trip rule.
-fn trip(operating: u8, asserting: u8, direction: Direction, unbalanced: bool) -> u8
-    ensures { λ r. ⌜ r ≡ trip operating asserting direction unbalanced ⌝ }
+fn trip(
+    operating: u8,
+    quadrilaterals: u8,
+    asserting: u8,
+    direction: Direction,
+    unbalanced: bool,
+) -> u8
+    ensures { λ r. ⌜ r ≡ trip operating quadrilaterals asserting direction unbalanced ⌝ }
 {
     if operating != 0 {
+        return TRIP;
+    }
+    if quadrilaterals != 0 {
         return TRIP;
     }
     if balanced_fault(asserting, unbalanced) {
         return TRIP;
     }
-    match direction {
-        Direction::Forward => if asserting != 0 { TRIP } else { NO_TRIP },
-        Direction::None => NO_TRIP,
-        Direction::Reverse => NO_TRIP,
+    if direction::is_forward(direction) {
+        if asserting != 0 { TRIP } else { NO_TRIP }
+    } else {
+        NO_TRIP
     }
 }
 
@@ -76,17 +87,17 @@ fn word(n: u64) -> [u8; 4]
 // A decision record with its first eight bytes, and zeros.
 fn front(
     trip: u8,
-    operating: u8,
+    phases: u8,
     asserting: u8,
     direction: u8,
     overreaching: u8,
     changes: Changes,
 ) -> [u8; LENGTH]
-    ensures { λ r. ⌜ r ≡ trip ∷ operating ∷ asserting ∷ direction ∷ overreaching ∷ changes .a ∷ changes .b ∷ changes .c ∷ replicate 24 0 ⌝ }
+    ensures { λ r. ⌜ r ≡ trip ∷ phases ∷ asserting ∷ direction ∷ overreaching ∷ changes .a ∷ changes .b ∷ changes .c ∷ replicate 24 0 ⌝ }
 {
     let mut r = [0u8; LENGTH];
     r[0] = trip;
-    r[1] = operating;
+    r[1] = phases;
     r[2] = asserting;
     r[3] = direction;
     r[4] = overreaching;
@@ -109,14 +120,20 @@ fn with_word(r: [u8; LENGTH], at: usize, n: u64) -> [u8; LENGTH]
 
 // The decision record of what was found.
 pub fn bytes(f: Findings) -> [u8; LENGTH]
-    requires { ⌜ AllSized (f .comparisons) ⌝ }
+    requires { ⌜ FindingsSized f ⌝ }
     ensures { λ r. ⌜ r ≡ decisionBytes f ⌝ }
 {
     let direction = f.direction;
     let comparisons = f.comparisons;
     let r = front(
-        trip(f.operating, f.asserting, direction, f.unbalanced),
-        f.operating,
+        trip(
+            f.operating,
+            f.quadrilaterals,
+            f.asserting,
+            direction,
+            f.unbalanced,
+        ),
+        whole::six_bits(f.operating, f.quadrilaterals),
         f.asserting,
         direction::number(direction),
         f.overreaching,

@@ -12,7 +12,7 @@ use Rattle.whole.proofs.Certificate.{quo, ring! }
 use Rattle.whole.proofs.Size.{neg, add, sub, mul, wider, along, abs-mul}
 use Rattle.whole.proofs.Rounding.{round-near, round-error}
 use Rattle.plane.specs.declared.Phasor.{Phasor}
-use Rattle.plane.specs.Plane.{plus, minus, times, scaled, rounded, minusJ, dot}
+use Rattle.plane.specs.Plane.{plus, minus, times, scaled, rounded, minusJ, dot, cross}
 use Rattle.plane.specs.Sizes.{Inside}
 
 pub inside-plus : {a b : ℕ} {p q : Phasor} → Inside a p → Inside b q → Inside (a + b) (plus p q)
@@ -60,6 +60,10 @@ inside-minus-j h = record { real = h .imag; imag = neg (h .real) }
 pub within-dot : {a b : ℕ} {p q : Phasor} → Inside a p → Inside b q → Within (a * b + a * b) (dot p q)
 unfolding dot
 within-dot h k = add (mul (h .real) (k .real)) (mul (h .imag) (k .imag))
+
+pub within-cross : {a b : ℕ} {p q : Phasor} → Inside a p → Inside b q → Within (a * b + a * b) (cross p q)
+unfolding cross
+within-cross h k = sub (mul (h .imag) (k .real)) (mul (h .real) (k .imag))
 
 pub inside-wider : {a b : ℕ} {p : Phasor} → Inside a p → T (leb a b) → Inside b p
 inside-wider h t = record { real = wider (h .real) t; imag = wider (h .imag) t }

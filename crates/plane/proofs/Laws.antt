@@ -1,4 +1,4 @@
--- What the operations mean: Re(p q*) is the real part of that product, -j is the complex number (0, -1), a square is not negative, each
+-- What the operations mean: Re(p q*) and Im(p q*) are the parts of that product, -j is the complex number (0, -1), a square is not negative, each
 -- component is rounded as document 01 says, and what |p|² is as a natural number.
 use mathlib.Core.Path.{_≡_, refl, ap}
 use Prim.Native.Nat.{ℕ, _+_, _*_, _%_, _≤_}
@@ -12,7 +12,7 @@ use Rattle.whole.proofs.Certificate.{quo, ring!, le!, g-sq, _⊞_}
 use Rattle.whole.specs.Round.{Rounded, roundBy}
 use Rattle.whole.proofs.Rounding.{round-near, round-is}
 use Rattle.plane.specs.declared.Phasor.{Phasor}
-use Rattle.plane.specs.Plane.{NearTo, times, rounded, conjugate, minusJ, dot, squared, squaredMagnitude, zero}
+use Rattle.plane.specs.Plane.{NearTo, times, rounded, conjugate, minusJ, dot, cross, squared, squaredMagnitude, zero}
 use Rattle.plane.specs.Sizes.{Inside}
 use Rattle.plane.proofs.Bounds.{within-dot}
 use Rattle.plane.proofs.Made.{pair}
@@ -20,6 +20,10 @@ use Rattle.plane.proofs.Made.{pair}
 pub dot-is : (p q : Phasor) → dot p q ≡ times p (conjugate q) .re
 unfolding dot times
 dot-is p q = ring! (p .re ∷ p .im ∷ q .re ∷ q .im ∷ []) (search quo depth 40) tt
+
+pub cross-is : (p q : Phasor) → cross p q ≡ times p (conjugate q) .im
+unfolding cross times
+cross-is p q = ring! (p .re ∷ p .im ∷ q .re ∷ q .im ∷ []) (search quo depth 40) tt
 
 pub minus-j-is : (p : Phasor) → minusJ p ≡ times (record { re = pos 0; im = negℤ (pos 1) }) p
 unfolding minusJ times
@@ -34,6 +38,10 @@ squared-nonneg p = le! (p .re ∷ p .im ∷ []) (g-sq (p .re) ⊞ g-sq (p .im)) 
 pub dot-zero : (p : Phasor) → dot p zero ≡ pos 0
 unfolding dot
 dot-zero p = ring! (p .re ∷ p .im ∷ []) (search quo depth 40) tt
+
+pub cross-zero : (p : Phasor) → cross p zero ≡ pos 0
+unfolding cross
+cross-zero p = ring! (p .re ∷ p .im ∷ []) (search quo depth 40) tt
 
 pub times-zero : (p : Phasor) → times p zero ≡ zero
 unfolding times

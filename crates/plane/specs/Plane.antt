@@ -45,6 +45,10 @@ minusJ p = record { re = p .im; im = negℤ (p .re) }
 unfoldable pub dot : Phasor → Phasor → ℤ
 dot p q = p .re *ℤ q .re +ℤ p .im *ℤ q .im
 
+-- Im(p q*)
+unfoldable pub cross : Phasor → Phasor → ℤ
+cross p q = p .im *ℤ q .re -ℤ p .re *ℤ q .im
+
 -- |p|²
 abbrev pub squared : Phasor → ℤ
 squared p = dot p p

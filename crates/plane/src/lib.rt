@@ -4,7 +4,7 @@ ghost use Prim.Native.Nat.{_*_, _^_};
 ghost use lib.IntN.{pos, natAbs};
 ghost use lib.Signed.{_<ℤ_};
 ghost use Rattle.whole.specs.Sizes.{Within};
-ghost use Rattle.plane.specs.Plane.{plus, minus, times, scaled, rounded, dot, squared, squaredMagnitude, minusJ};
+ghost use Rattle.plane.specs.Plane.{plus, minus, times, scaled, rounded, dot, cross, squared, squaredMagnitude, minusJ};
 ghost use Rattle.plane.specs.Sizes.{Inside, Multiply};
 
 // A voltage or a current in counts, or any other complex number.
@@ -86,6 +86,14 @@ pub fn dot(p: Phasor, q: Phasor) -> i64
     ensures { λ r. ⌜ r ≡ dot p q ⌝ }
 {
     p.re * q.re + p.im * q.im
+}
+
+// Im(p q*).
+pub fn cross(p: Phasor, q: Phasor) -> i64
+    requires { ⌜ Multiply p q ⌝ }
+    ensures { λ r. ⌜ r ≡ cross p q ⌝ }
+{
+    p.im * q.re - p.re * q.im
 }
 
 // |p|².

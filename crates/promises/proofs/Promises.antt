@@ -11,6 +11,7 @@ use Rattle.decision_claims.proofs.Demand2 as demand-2
 use Rattle.decision_claims.proofs.SecondZone as second-zone
 use Rattle.decision_claims.proofs.Balanced as balanced
 use Rattle.decision_claims.proofs.Change as change
+use Rattle.decision_claims.proofs.Quadrilaterals as quadrilaterals
 use Rattle.decision_claims.proofs.Demand3 as demand-3
 use Rattle.claims.proofs.WhichRule as which-rule
 use Rattle.claims.proofs.Settings as settings
@@ -18,6 +19,7 @@ use Rattle.claims.proofs.WrongRelays as wrong-relays
 use Rattle.settings.proofs.Examples as examples
 use Rattle.direction.proofs.Laws as direction
 use Rattle.distance.proofs.Laws as distance
+use Rattle.quadrilateral.proofs.Laws as quadrilateral
 use Rattle.differential.proofs.Laws as differential
 use Rattle.differential.proofs.SlopeOfChange as slope-of-change
 use Rattle.worked.proofs.HandChecks as hand-checks
@@ -116,6 +118,11 @@ gorsepetal = record {
   same-story = change.same-story;
   at-another-slope = change.at-another-slope;
   change-moves-three = change.change-moves-three;
+  quadrilateral-has-reason = quadrilaterals.quadrilateral-has-reason;
+  larger-r-keeps = quadrilaterals.larger-r-keeps;
+  at-another-r = quadrilaterals.at-another-r;
+  quadrilaterals-off = quadrilaterals.quadrilaterals-off;
+  records-before-r = quadrilaterals.records-before-r;
   demand-3-first = demand-3.demand-3-first;
   demand-3-second = demand-3.demand-3-second;
   demand-3-of-change = demand-3.demand-3-of-change;
@@ -155,6 +162,10 @@ gorsepetal = record {
   larger-reach = distance.larger-reach;
   no-polarising = distance.no-polarising;
   no-positive = distance.no-positive;
+  quadrilateral-rule = quadrilateral.quadrilateral-rule;
+  no-residual = quadrilateral.no-residual;
+  larger-resistive-reach = quadrilateral.larger-resistive-reach;
+  fault-equation = quadrilateral.fault-equation;
   none-below-pickup = direction.none-below-pickup;
   never-both = direction.never-both;
   forward-rule = direction.forward-rule;

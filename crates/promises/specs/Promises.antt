@@ -4,6 +4,7 @@
 use Rattle.settings.specs.Examples.{AsFound, ByOffset}
 use Rattle.direction.specs.Laws.{NoneBelowPickup, NeverBoth, ForwardRule, ReverseRule}
 use Rattle.distance.specs.Laws.{MhoRule, LargerReach, NoPolarising, NoPositive}
+use Rattle.quadrilateral.specs.Laws.{QuadrilateralRule, NoResidual, LargerResistiveReach, FaultEquation}
 use Rattle.differential.specs.Laws.{OperatesRule, SmallerSlope, NoneAt100, NeverTooSmall, ZeroWindow, OneSlopeOfChange, ChangeAtMost99, ChangeBelowPickup}
 use Rattle.differential.specs.Named.{NamedWindow, OneCountIsFalse, BandIsUsed}
 use Rattle.differential.specs.PaperMill.{PaperMill}
@@ -21,6 +22,7 @@ use Rattle.decision_claims.specs.Demand2.{Demand2}
 use Rattle.decision_claims.specs.SecondZone.{SecondZoneHasFirst, OtherBytesStay, RecordsFromBefore}
 use Rattle.decision_claims.specs.Balanced.{BalancedFault, BetweenLimits, NoVoltage, ElseAsBefore}
 use Rattle.decision_claims.specs.Change.{OneChange, SameStory, AtAnotherSlope, ChangeMovesThree}
+use Rattle.decision_claims.specs.Quadrilaterals.{QuadrilateralHasReason, LargerRKeeps, AtAnotherR, QuadrilateralsOff, RecordsBeforeR}
 use Rattle.decision_claims.specs.Demand3.{Demand3First, Demand3Second, Demand3OfChange, TripHasReason, FaultTrips, ThroughDoesNot, ThroughIsQuiet}
 use Rattle.claims.specs.WhichRule.{WhichRule, WhichRuleOverHistories, WhichRuleByFeeding, WhichRuleByEvents, WhichRecord, WhichRecordOverHistories, SaidTwiceReadsBack, SaidTwiceDecides, SaidTwiceDecidesByFeeding}
 use Rattle.worked.specs.HandChecks.{HandChecks}
@@ -127,6 +129,12 @@ pub record Gorsepetal : Type 1 where
   pub same-story : SameStory
   pub at-another-slope : AtAnotherSlope
   pub change-moves-three : ChangeMovesThree
+  -- the quadrilateral ground loops, and what they do not move
+  pub quadrilateral-has-reason : QuadrilateralHasReason
+  pub larger-r-keeps : LargerRKeeps
+  pub at-another-r : AtAnotherR
+  pub quadrilaterals-off : QuadrilateralsOff
+  pub records-before-r : RecordsBeforeR
   -- demand 3: how far rounding can move the decision
   pub demand-3-first : Demand3First
   pub demand-3-second : Demand3Second
@@ -172,6 +180,10 @@ pub record Gorsepetal : Type 1 where
   pub larger-reach : LargerReach
   pub no-polarising : NoPolarising
   pub no-positive : NoPositive
+  pub quadrilateral-rule : QuadrilateralRule
+  pub no-residual : NoResidual
+  pub larger-resistive-reach : LargerResistiveReach
+  pub fault-equation : FaultEquation
   pub none-below-pickup : NoneBelowPickup
   pub never-both : NeverBoth
   pub forward-rule : ForwardRule

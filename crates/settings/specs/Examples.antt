@@ -62,8 +62,9 @@ examples =
     -- second reach, beside a first of 850: byte 27 alone, byte 26 alone; off is the record itself
     ∷ example 26 1 (Bad 26) ∷ example 26 256 (Bad 26) ∷ example 26 849 (Bad 26) ∷ example 26 850 Good ∷ example 26 2000 Good
     ∷ example 26 2001 (Bad 26)
+    -- resistive reach: byte 29 alone, byte 28 alone, and its limit; off is the record itself
+    ∷ example 28 1 Good ∷ example 28 256 Good ∷ example 28 1000 Good ∷ example 28 1001 (Bad 28) ∷ example 28 65535 (Bad 28)
     -- spare bytes
-    ∷ example 28 256 (Bad 28) ∷ example 28 1 (Bad 29)
     ∷ example 30 256 (Bad 30) ∷ example 30 1 (Bad 31)
     ∷ []
 

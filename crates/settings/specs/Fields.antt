@@ -7,7 +7,7 @@ use lib.ListN.{getD}
 use lib.IntN.{ℤ}
 use lib.Signed.{_≤ℤ_, _<ℤ_}
 use Rattle.settings.specs.Record.{fieldAt, signedAt}
-use Rattle.settings.specs.Table.{Rule, Unsigned, Signed, Squares, Below, OffOrFrom, Byte, offsetOf, endsRow, slopeRow, pickupRow, replicaRealRow, replicaImaginaryRow, reachRow, kRealRow, kImaginaryRow, angleRealRow, angleImaginaryRow, angleSizeRow, forwardLimitRow, reverseLimitRow, limitsOrderRow, negativeSequencePickupRow, secondReachRow, spareRows}
+use Rattle.settings.specs.Table.{Rule, Unsigned, Signed, Squares, Below, OffOrFrom, Byte, offsetOf, endsRow, slopeRow, pickupRow, replicaRealRow, replicaImaginaryRow, reachRow, kRealRow, kImaginaryRow, angleRealRow, angleImaginaryRow, angleSizeRow, forwardLimitRow, reverseLimitRow, limitsOrderRow, negativeSequencePickupRow, secondReachRow, resistiveReachRow, spareRows}
 
 -- N, the ends of the line.
 abbrev pub ends : List ℕ → ℕ
@@ -61,6 +61,10 @@ negativeSequencePickup s = fieldAt s (offsetOf negativeSequencePickupRow)
 abbrev pub secondReach : List ℕ → ℕ
 secondReach s = fieldAt s (offsetOf secondReachRow)
 
+-- R, the resistive reach, tenths of a voltage count for a current count; 0 where the quadrilaterals are off (document 02, CR 7).
+abbrev pub resistiveReach : List ℕ → ℕ
+resistiveReach s = fieldAt s (offsetOf resistiveReachRow)
+
 -- ---- what it is to keep a rule, as a fact about numbers
 
 -- From a least to a greatest number.
@@ -104,4 +108,5 @@ pub record Ranges (s : List ℕ) : Type 0 where
   pub limits-order : Keeps s limitsOrderRow
   pub negativeSequencePickup-range : Keeps s negativeSequencePickupRow
   pub secondReach-range : Keeps s secondReachRow
+  pub resistiveReach-range : Keeps s resistiveReachRow
   pub spare-bytes : AllKept spareRows s

@@ -1,6 +1,6 @@
 -- Document 01, "Settings record": the table as data, in the order of the checks. Each field's row has a name, and it alone says the offset
 -- and the limits: `Fields` takes both from it. A sum-of-squares fault is at 18 and zf not below zr at 22, each found when that offset's own range has
--- passed; every fault of the second reach is at 26 (document 02, CR 2); each spare byte is at its own offset.
+-- passed; every fault of the second reach is at 26 (document 02, CR 2), and of the resistive reach at 28 (CR 7); each spare byte is at its own offset.
 use Prim.Native.Nat.{ℕ}
 use mathlib.Core.List.{List, [], _∷_, _++_}
 use lib.IntN.{ℤ, pos}
@@ -75,6 +75,10 @@ mostSquares = 1002000
 abbrev pub mostLimit : ℕ
 mostLimit = 20000
 
+-- the resistive reach, tenths of a voltage count for a current count
+abbrev pub mostResistiveReach : ℕ
+mostResistiveReach = 1000
+
 -- ---- the rows by name
 
 -- ends N
@@ -136,6 +140,10 @@ negativeSequencePickupRow = Unsigned 24 1 mostCounts
 abbrev pub secondReachRow : Rule
 secondReachRow = OffOrFrom (offsetOf reachRow) 26 mostReach
 
+-- resistive reach R, tenths: "0 is off, 1 to 1000" (document 02, CR 7)
+abbrev pub resistiveReachRow : Rule
+resistiveReachRow = Unsigned 28 0 mostResistiveReach
+
 -- ---- the parts of the table: the code has one function for each
 
 abbrev pub differentialRows : List Rule
@@ -152,11 +160,11 @@ directionRows = forwardLimitRow ∷ reverseLimitRow ∷ limitsOrderRow ∷ negat
 
 -- zero bytes, so far without a use
 abbrev pub spareRows : List Rule
-spareRows = Byte 28 0 0 ∷ Byte 29 0 0 ∷ Byte 30 0 0 ∷ Byte 31 0 0 ∷ []
+spareRows = Byte 30 0 0 ∷ Byte 31 0 0 ∷ []
 
 -- bytes 26 to 31: a field that takes some of them up stands here, before those that are still spare
 abbrev pub tailRows : List Rule
-tailRows = secondReachRow ∷ spareRows
+tailRows = secondReachRow ∷ resistiveReachRow ∷ spareRows
 
 unfoldable pub settingsTable : List Rule
 settingsTable = differentialRows ++ distanceRows ++ angleRows ++ directionRows ++ tailRows

@@ -26,3 +26,5 @@ pub const REVERSE_LIMIT: u8 = 22;
 pub const NEGATIVE_SEQUENCE_PICKUP: u8 = 24;
 
 pub const SECOND_REACH: u8 = 26;
+
+pub const RESISTIVE_REACH: u8 = 28;

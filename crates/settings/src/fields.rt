@@ -2,7 +2,7 @@
 ghost use mathlib.Core.Path.{_≡_};
 ghost use lib.IntN.{pos};
 ghost use Rattle.settings.specs.Record.{fieldAt};
-ghost use Rattle.settings.specs.Fields.{ends, slope, pickup, replicaReal, replicaImaginary, reach, kReal, kImaginary, angleReal, angleImaginary, forwardLimit, reverseLimit, negativeSequencePickup, secondReach};
+ghost use Rattle.settings.specs.Fields.{ends, slope, pickup, replicaReal, replicaImaginary, reach, kReal, kImaginary, angleReal, angleImaginary, forwardLimit, reverseLimit, negativeSequencePickup, secondReach, resistiveReach};
 use crate::at;
 
 // An unsigned field, among signed numbers.
@@ -104,4 +104,11 @@ pub fn second_reach(s: &[u8]) -> i64
     ensures { λ r. ⌜ r ≡ pos (secondReach (now (s .entry))) ⌝ }
 {
     counted(s, at::SECOND_REACH)
+}
+
+// R, the resistive reach, tenths of a voltage count for a current count; 0 where the quadrilaterals are off (document 02, CR 7).
+pub fn resistive_reach(s: &[u8]) -> u64
+    ensures { λ r. ⌜ r ≡ resistiveReach (now (s .entry)) ⌝ }
+{
+    crate::field(s, at::RESISTIVE_REACH)
 }

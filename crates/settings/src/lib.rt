@@ -39,6 +39,8 @@ const LEAST_LIMIT: i64 = -20000;
 
 const MOST_LIMIT: i64 = 20000;
 
+const MOST_RESISTIVE_REACH: u64 = 1000;
+
 // What a check finds: a good record, or the offset of the first fault.
 pub enum Checked {
     Good,
@@ -238,13 +240,12 @@ fn direction_part(found: Checked, s: &[u8]) -> Checked
     unsigned_rule(found, s, at::NEGATIVE_SEQUENCE_PICKUP, 1, MOST_COUNTS)
 }
 
-// The second reach, and the bytes that are zero so far.
+// The second reach, the resistive reach, and the bytes that are zero so far.
 fn tail_part(found: Checked, s: &[u8]) -> Checked
     ensures { λ r. ⌜ r ≡ afterAll found (now (s .entry)) tailRows ⌝ }
 {
     let found = off_or_from_rule(found, s, at::REACH, at::SECOND_REACH, MOST_REACH);
-    let found = byte_rule(found, s, 28, 0, 0);
-    let found = byte_rule(found, s, 29, 0, 0);
+    let found = unsigned_rule(found, s, at::RESISTIVE_REACH, 0, MOST_RESISTIVE_REACH);
     let found = byte_rule(found, s, 30, 0, 0);
     byte_rule(found, s, 31, 0, 0)
 }

@@ -2,12 +2,14 @@
 // yes and no as bits.
 ghost use mathlib.Core.Path.{_≡_};
 ghost use mathlib.Core.Bool.{cond};
-ghost use Prim.Native.Nat.{_+_, _*_, _≤_, _^_};
+ghost use mathlib.Core.List.{[], _∷_};
+ghost use Prim.Native.Nat.{_+_, _*_, _≤_, _<_, _^_};
 ghost use lib.IntN.{pos, natAbs, _-ℤ_, _*ℤ_};
 ghost use lib.Signed.{_<ℤ_, shrZ};
 ghost use Rattle.whole.specs.Sizes.{Within};
 ghost use Rattle.whole.specs.Round.{roundBy};
 ghost use Rattle.whole.specs.Root.{floorRoot, rootUp};
+ghost use Rattle.whole.specs.Bits.{bits};
 ghost use Rattle.whole.specs.TwosComplement.{signed, unsigned};
 
 // What is left of s once d has been taken off as often as it goes in: from 0 to d - 1, below zero too. The machine's own remainder has the
@@ -80,9 +82,24 @@ pub fn unsigned(z: i16) -> u16
 }
 
 // One bit in front of others, which then weigh twice as much.
-pub fn bit_before(x: bool, rest: u8) -> u8
+fn bit_before(x: bool, rest: u8) -> u8
     requires { ⌜ rest ≤ 127 ⌝ }
     ensures { λ r. ⌜ (r ≡ cond x 1 0 + 2 * rest) × (r ≤ 1 + 2 * rest) ⌝ }
 {
     if x { 1 + 2 * rest } else { 2 * rest }
+}
+
+// Three bits: the first weighs 1, the second 2, the third 4.
+pub fn three_bits(a: bool, b: bool, c: bool) -> u8
+    ensures { λ r. ⌜ (r ≡ bits (a ∷ b ∷ c ∷ [])) × (r < 8) ⌝ }
+{
+    bit_before(a, bit_before(b, bit_before(c, 0)))
+}
+
+// Three bits, and three above them.
+pub fn six_bits(low: u8, high: u8) -> u8
+    requires { ⌜ (low < 8) × (high < 8) ⌝ }
+    ensures { λ r. ⌜ r ≡ low + 8 * high ⌝ }
+{
+    low + 8 * high
 }

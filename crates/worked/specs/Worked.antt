@@ -1,5 +1,6 @@
 -- Whole decisions, from the samples to bytes 0 to 7: the paper mill's fault at both slopes, a fault on each of the six loops, one behind
--- the relay, three beyond the first zone, balanced faults (document 02, CR 4), and faults at the slope at which they change (CR 6). In the
+-- the relay, three beyond the first zone, balanced faults (document 02, CR 4), faults at the slope at which they change (CR 6), and
+-- resistive faults that the circles miss (CR 7). In the
 -- loops' and the balanced faults what flows in at end 1 flows out at end 2. docs/HAND-CHECKS.md works the mill's, the AG and the first of the
 -- balanced faults out; the other loops' faults are like these, turned by a third.
 use Prim.Native.Nat.{ℕ, _+_}
@@ -8,7 +9,7 @@ use mathlib.Core.List.{List, [], _∷_, _++_, map}
 use lib.IntN.{ℤ, pos, _*ℤ_}
 use lib.ListN.{take, replicate}
 use Rattle.settings.specs.Record.{negated}
-use Rattle.settings.specs.Table.{Rule, offsetOf, slopeRow, pickupRow, reachRow, secondReachRow}
+use Rattle.settings.specs.Table.{Rule, offsetOf, slopeRow, pickupRow, reachRow, forwardLimitRow, negativeSequencePickupRow, secondReachRow, resistiveReachRow}
 use Rattle.settings.specs.Examples.{exampleRecord, changed}
 use Rattle.decision.specs.Decision.{decision}
 use Rattle.worked.specs.HandChecks.{Complex}
@@ -22,7 +23,7 @@ pub record Worked : Type 0 where
   pub settings : List ℕ
   -- Va, Vb, Vc, then Ia, Ib, Ic of end 1 and of end 2
   pub phasors : List Complex
-  -- trip, phases, loops, direction, the loops in the second zone, and c of a, b, c
+  -- trip, phases and quadrilaterals, loops, direction, the loops in the second zone, and c of a, b, c
   pub bytes : List ℕ
 
 abbrev pub none : Complex
@@ -148,9 +149,73 @@ changing =
     ∷ currents ((pos 100, pos 0) ∷ (pos 90, pos 0) ∷ (pos 1, pos 1) ∷ (negated 40, pos 0) ∷ (negated 30, pos 0) ∷ (pos 1, pos 1) ∷ []) 1 45 (1 ∷ 6 ∷ 0 ∷ 0 ∷ 0 ∷ 42 ∷ 49 ∷ 99 ∷ [])
     ∷ []
 
+-- a resistive reach
+abbrev pub sided : ℕ → Worked → Worked
+sided R x = with resistiveReachRow R x
+
+-- a fault of phase a to ground by its voltage, with 600 counts of current: Z I is (1000000,0), so Va = (m, y) is one at m thousandths of Z, and
+-- 10 |y| / 600 tenths of resistance
+abbrev pub leaking : ℤ → ℤ → List ℕ → Worked
+leaking m y bytes = through ((m, y) ∷ (negated 1000, negated 1732) ∷ (negated 1000, pos 1732) ∷ []) ((pos 0, negated 600) ∷ none ∷ none ∷ []) bytes
+
+-- one of a and b, in which I of BG has the other sign than Ir, so that q of B is above zero
+abbrev pub turnedRound : ℤ → List ℕ → Worked
+turnedRound x bytes = through ((pos 600, negated 1500) ∷ (x, negated 600) ∷ (negated 1000, pos 1732) ∷ []) ((pos 0, negated 1400) ∷ (pos 0, pos 800) ∷ none ∷ []) bytes
+
+abbrev pub resistive : List Worked
+resistive =
+    -- off, short of the right side, on it, and beyond it; from 29 on the sound phases see it too
+    sided 0 (leaking (pos 600) (negated 1500) (0 ∷ 0 ∷ 0 ∷ 1 ∷ 0 ∷ []))
+    ∷ sided 24 (leaking (pos 600) (negated 1500) (0 ∷ 0 ∷ 0 ∷ 1 ∷ 0 ∷ []))
+    ∷ sided 25 (leaking (pos 600) (negated 1500) (1 ∷ 8 ∷ 0 ∷ 1 ∷ 0 ∷ []))
+    ∷ sided 28 (leaking (pos 600) (negated 1500) (1 ∷ 8 ∷ 0 ∷ 1 ∷ 0 ∷ []))
+    ∷ sided 29 (leaking (pos 600) (negated 1500) (1 ∷ 56 ∷ 0 ∷ 1 ∷ 0 ∷ []))
+    ∷ sided 1000 (leaking (pos 600) (negated 1500) (1 ∷ 56 ∷ 0 ∷ 1 ∷ 0 ∷ []))
+    -- the left side
+    ∷ sided 24 (leaking (pos 600) (pos 1500) (0 ∷ 0 ∷ 0 ∷ 1 ∷ 0 ∷ []))
+    ∷ sided 25 (leaking (pos 600) (pos 1500) (1 ∷ 8 ∷ 0 ∷ 1 ∷ 0 ∷ []))
+    -- below the top and on it, by the fault and by r
+    ∷ sided 25 (leaking (pos 849) (negated 1500) (1 ∷ 8 ∷ 0 ∷ 1 ∷ 0 ∷ []))
+    ∷ sided 25 (leaking (pos 850) (negated 1500) (0 ∷ 0 ∷ 0 ∷ 1 ∷ 0 ∷ []))
+    ∷ sided 25 (with reachRow 600 (leaking (pos 600) (negated 1500) (0 ∷ 0 ∷ 0 ∷ 1 ∷ 0 ∷ [])))
+    ∷ sided 25 (with reachRow 601 (leaking (pos 600) (negated 1500) (1 ∷ 8 ∷ 0 ∷ 1 ∷ 0 ∷ [])))
+    -- beyond the top, where the sound phases see it
+    ∷ sided 28 (leaking (pos 900) (negated 1500) (0 ∷ 0 ∷ 0 ∷ 1 ∷ 0 ∷ []))
+    ∷ sided 29 (leaking (pos 900) (negated 1500) (1 ∷ 48 ∷ 0 ∷ 1 ∷ 0 ∷ []))
+    -- behind
+    ∷ sided 25 (through ((pos 600, negated 1500) ∷ (negated 1000, negated 1732) ∷ (negated 1000, pos 1732) ∷ []) ((pos 0, pos 600) ∷ none ∷ none ∷ []) (0 ∷ 0 ∷ 0 ∷ 2 ∷ 0 ∷ []))
+    -- 3I2 at its pickup, and one below; T just below zf, and not
+    ∷ sided 25 (with negativeSequencePickupRow 600 (leaking (pos 600) (negated 1500) (1 ∷ 8 ∷ 0 ∷ 1 ∷ 0 ∷ [])))
+    ∷ sided 25 (with negativeSequencePickupRow 601 (leaking (pos 600) (negated 1500) (0 ∷ 0 ∷ 0 ∷ 0 ∷ 0 ∷ [])))
+    ∷ sided 25 (with forwardLimitRow 63203 (leaking (pos 600) (negated 1500) (1 ∷ 8 ∷ 0 ∷ 1 ∷ 0 ∷ [])))
+    ∷ sided 25 (with forwardLimitRow 63202 (leaking (pos 600) (negated 1500) (0 ∷ 0 ∷ 0 ∷ 0 ∷ 0 ∷ [])))
+    -- solid, so that n is 0: off, and on
+    ∷ sided 0 (leaking (pos 600) (pos 0) (1 ∷ 0 ∷ 1 ∷ 1 ∷ 0 ∷ []))
+    ∷ sided 1 (leaking (pos 600) (pos 0) (1 ∷ 8 ∷ 1 ∷ 1 ∷ 0 ∷ []))
+    ∷ sided 1 (leaking (pos 0) (pos 0) (1 ∷ 8 ∷ 1 ∷ 1 ∷ 0 ∷ []))
+    -- B and C
+    ∷ sided 25 (through ((pos 2000, pos 0) ∷ (negated 1599, pos 230) ∷ (negated 1000, pos 1732) ∷ []) (none ∷ (negated 520, pos 300) ∷ none ∷ []) (1 ∷ 16 ∷ 0 ∷ 1 ∷ 0 ∷ []))
+    ∷ sided 24 (through ((pos 2000, pos 0) ∷ (negated 1599, pos 230) ∷ (negated 1000, pos 1732) ∷ []) (none ∷ (negated 520, pos 300) ∷ none ∷ []) (0 ∷ 0 ∷ 0 ∷ 1 ∷ 0 ∷ []))
+    ∷ sided 25 (through ((pos 2000, pos 0) ∷ (negated 1000, negated 1732) ∷ (pos 999, pos 1270) ∷ []) (none ∷ none ∷ (pos 520, pos 300) ∷ []) (1 ∷ 32 ∷ 0 ∷ 1 ∷ 0 ∷ []))
+    ∷ sided 24 (through ((pos 2000, pos 0) ∷ (negated 1000, negated 1732) ∷ (pos 999, pos 1270) ∷ []) (none ∷ none ∷ (pos 520, pos 300) ∷ []) (0 ∷ 0 ∷ 0 ∷ 1 ∷ 0 ∷ []))
+    -- 3V1 is 0: no circle, and off and on
+    ∷ sided 0 (through ((negated 200, pos 0) ∷ (pos 100, negated 173) ∷ (pos 100, pos 173) ∷ []) ((pos 0, negated 600) ∷ none ∷ none ∷ []) (0 ∷ 0 ∷ 0 ∷ 1 ∷ 0 ∷ []))
+    ∷ sided 1 (through ((negated 200, pos 0) ∷ (pos 100, negated 173) ∷ (pos 100, pos 173) ∷ []) ((pos 0, negated 600) ∷ none ∷ none ∷ []) (1 ∷ 8 ∷ 0 ∷ 1 ∷ 0 ∷ []))
+    -- q of B is 0, since its I is; and Ir is 0
+    ∷ sided 1000 (through ((pos 600, negated 1500) ∷ (negated 1000, negated 1732) ∷ (negated 1000, pos 1732) ∷ []) ((pos 0, negated 1000) ∷ (pos 0, pos 400) ∷ none ∷ []) (1 ∷ 40 ∷ 1 ∷ 1 ∷ 0 ∷ []))
+    ∷ sided 1000 (through ((pos 600, negated 1500) ∷ (negated 1000, negated 1732) ∷ (negated 1000, pos 1732) ∷ []) ((pos 0, negated 600) ∷ (pos 0, pos 600) ∷ none ∷ []) (0 ∷ 0 ∷ 0 ∷ 1 ∷ 0 ∷ []))
+    -- phase a operates too; the second zone, which has no part in it
+    ∷ sided 25 (record { settings = exampleRecord; phasors = (pos 600, negated 1500) ∷ (negated 1000, negated 1732) ∷ (negated 1000, pos 1732) ∷ (pos 0, negated 600) ∷ none ∷ none ∷ (pos 0, negated 600) ∷ none ∷ none ∷ []; bytes = 1 ∷ 9 ∷ 0 ∷ 1 ∷ 0 ∷ 99 ∷ 0 ∷ 0 ∷ [] })
+    ∷ sided 25 (zoned 2000 (leaking (pos 600) (negated 1500) (1 ∷ 8 ∷ 0 ∷ 1 ∷ 1 ∷ [])))
+    -- q of B above zero: the line's other side, at the top, and one beyond it
+    ∷ sided 10 (turnedRound (negated 1000) (1 ∷ 16 ∷ 9 ∷ 1 ∷ 0 ∷ []))
+    ∷ sided 10 (turnedRound (negated 340) (1 ∷ 0 ∷ 9 ∷ 1 ∷ 0 ∷ []))
+    ∷ sided 10 (turnedRound (negated 341) (1 ∷ 16 ∷ 9 ∷ 1 ∷ 0 ∷ []))
+    ∷ []
+
 -- One claim over all of them.
 abbrev pub worked : List Worked
-worked = directed ++ balanced ++ changing
+worked = directed ++ balanced ++ changing ++ resistive
 
 abbrev pub WorkedDecisions : Type 0
 WorkedDecisions = map (λ x. take 8 (decision (x .settings) (windowOf (x .phasors)))) worked ≡ map (λ x. x .bytes) worked

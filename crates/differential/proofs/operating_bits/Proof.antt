@@ -7,23 +7,15 @@ use Rattle.differential.proofs.operating_bits.Tie as tie
 returns : tie.Need-returns
 unfolding operatingBits
 returns c =
-    let o3 = c .before .before .before in
+    let o3 = c .before in
     let o2 = o3 .before in
     let o1 = o2 .before in
-    rw (
-      c .bit-before3 .ensures .0,
-      c .before .bit-before2 .ensures .0,
-      c .before .before .bit-before .ensures .0,
-      o3 .operates3 .ensures,
-      o2 .operates2 .ensures,
-      o1 .operates .ensures,
-      o1 .before .pickup .ensures,
-      o1 .before .before .slope .ensures,
-    )
+    let told = c .three-bits .ensures in
+    (rw (told .0, o3 .operates3 .ensures, o2 .operates2 .ensures, o1 .operates .ensures, o1 .before .pickup .ensures, o1 .before .before .slope .ensures), told .1)
 
 pub operating-bits-spec : {M : Type 1} → statement M
 operating-bits-spec =
     tie.close
     (tie.spec
     (λ c κs. search needs) (λ c κs. search needs) (λ c κs. search needs) (λ c κs. search needs)
-    (λ c κs. search needs) (λ c κs. search needs) (λ c κs. search needs) (λ c κs. search needs) returns)
+    (λ c κs. search needs) (λ c κs. search needs) returns)

@@ -1,5 +1,6 @@
 -- `direction::torque` meets its contract: the products fit.
 use mathlib.Core.Path.{_≡_, ap, _∙_}
+use borrow.Author.Needs.{needs}
 use Rattle.whole.proofs.Machine.{back}
 use Rattle.plane.specs.Plane.{times, dot}
 use Rattle.plane.proofs.Bounds.{inside-times, inside-along}
@@ -12,9 +13,6 @@ use Rattle.direction.proofs.torque.Tie as tie
 turned : (c : tie.After-times) → c .times .result ≡ times (c .before .args .d) (c .before .args .i2)
 turned c = c .times .ensures
 
-times-requires : tie.Need-times-requires
-times-requires c κs = multiply (c .pre .0) (c .pre .2) tt tt tt
-
 dot-requires : tie.Need-dot-requires
 dot-requires c κs =
     let h = c .before .pre in
@@ -26,4 +24,4 @@ returns c =
     back (c .dot .result) (c .dot .ok) ∙ c .dot .ensures ∙ ap (dot (c .before .before .args .v2)) (turned (c .before))
 
 pub torque-spec : {M : Type 1} → statement M
-torque-spec = tie.close (tie.spec times-requires dot-requires returns)
+torque-spec = tie.close (tie.spec (λ c κs. search needs) dot-requires returns)

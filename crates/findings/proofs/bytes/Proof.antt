@@ -22,7 +22,7 @@ returns c =
     let w3 = m1 .before in
     let w2 = w3 .before in
     let f = w2 .before .before in
-    let front = rw (f .before .before .trip .ensures, f .before .number .ensures) at (f .front .ensures) in
+    let front = rw (f .before .before .before .trip .ensures, f .before .before .six-bits .ensures, f .before .number .ensures) at (f .front .ensures) in
     more 28 (c .with-word6 .ensures)
     (more 24 (w5 .with-word5 .ensures)
     (more 20 (w4 .with-word4 .ensures)
@@ -35,4 +35,4 @@ bytes-spec =
     (tie.spec
     (λ c κs. search needs) (λ c κs. search needs) (λ c κs. search needs) (λ c κs. search needs)
     (λ c κs. search needs) (λ c κs. search needs) (λ c κs. search needs) (λ c κs. search needs)
-    (λ c κs. search needs) (λ c κs. search needs) (λ c κs. search needs) (λ c κs. search needs) returns)
+    (λ c κs. search needs) (λ c κs. search needs) (λ c κs. search needs) (λ c κs. search needs) (λ c κs. search needs) returns)

@@ -4,4 +4,4 @@ use Rattle.settings.proofs.tail_part.Statement.{statement}
 use Rattle.settings.proofs.tail_part.Tie as tie
 
 pub tail-part-spec : {M : Type 1} → statement M
-tail-part-spec = tie.close (tie.spec (λ c κs. tt) (λ c κs. tt) (λ c κs. tt) (λ c κs. tt) (λ c κs. tt) (λ c. search next depth 20))
+tail-part-spec = tie.close (tie.spec (λ c κs. tt) (λ c κs. tt) (λ c κs. tt) (λ c κs. tt) (λ c. search next depth 20))

@@ -3,11 +3,8 @@ use borrow.Author.Needs.{needs}
 use Rattle.direction.proofs.sequence.negative_sequence.Statement.{statement}
 use Rattle.direction.proofs.sequence.negative_sequence.Tie as tie
 
-sequence-requires : tie.Need-sequence-requires
-sequence-requires c κs = (c .before .a2 .ensures .1, c .a .ensures .1, c .before .before .pre)
-
 returns : tie.Need-returns
 returns c = rw (c .before .before .a2 .ensures .0, c .before .a .ensures .0) at (c .sequence .ensures)
 
 pub negative-sequence-spec : {M : Type 1} → statement M
-negative-sequence-spec = tie.close (tie.spec (λ c κs. search needs) (λ c κs. search needs) sequence-requires returns)
+negative-sequence-spec = tie.close (tie.spec (λ c κs. search needs) (λ c κs. search needs) (λ c κs. search needs) returns)

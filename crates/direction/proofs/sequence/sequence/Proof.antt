@@ -1,13 +1,13 @@
 -- `direction::sequence::sequence` meets its contract: what is formed at scale 16384 fits.
 use mathlib.Core.Path.{ap, ap₂, _∙_}
 use Prim.Native.Nat.{_^_}
+use borrow.Author.Needs.{needs}
 use lib.IntN.{pos}
 use lib.Signed.{ltZ-yes}
 use Rattle.whole.proofs.Size.{lit, wider}
 use Rattle.plane.specs.Plane.{plus, rounded}
 use Rattle.plane.specs.Sizes.{Inside}
 use Rattle.plane.proofs.Bounds.{inside-plus, inside-factor, inside-scaled, inside-wider, inside-along}
-use Rattle.plane.proofs.Steps.{multiply}
 use Rattle.direction.specs.Sequence.{sequence, scale}
 use Rattle.direction.proofs.Sizes.{turn-inside, sequence-inside}
 use Rattle.direction.proofs.sequence.sequence.Statement.{statement}
@@ -32,12 +32,6 @@ two c = inside-along (c .plus .ensures) (inside-plus (first (c .before .before .
 
 scaled-requires : tie.Need-scaled-requires
 scaled-requires c κs = (wider (lit (pos scale)) tt, inside-wider (c .pre .2 .inside-a) tt)
-
-times-requires : tie.Need-times-requires
-times-requires c κs = let h = c .before .pre in multiply (turn-inside (h .0)) (h .2 .inside-b) tt tt tt
-
-times-requires-2 : tie.Need-times-requires-2
-times-requires-2 c κs = let h = c .before .before .pre in multiply (turn-inside (h .1)) (h .2 .inside-c) tt tt tt
 
 plus-requires : tie.Need-plus-requires
 plus-requires c κs = (inside-wider (first (c .before .before)) tt, inside-wider (second (c .before)) tt)
@@ -65,4 +59,4 @@ pub sequence-spec : {M : Type 1} → statement M
 sequence-spec =
     tie.close
     (tie.spec
-    scaled-requires times-requires times-requires-2 plus-requires plus-requires-2 rounded-requires returns)
+    scaled-requires (λ c κs. search (needs, turn-inside)) (λ c κs. search (needs, turn-inside)) plus-requires plus-requires-2 rounded-requires returns)

@@ -1,18 +1,15 @@
 -- `direction::sequence::turned` meets its contract: the product fits.
 use mathlib.Core.Path.{ap, _∙_}
+use borrow.Author.Needs.{needs}
 use lib.IntN.{pos}
 use lib.Signed.{ltZ-yes}
 use Rattle.whole.proofs.Size.{lit, wider}
 use Rattle.plane.specs.Plane.{rounded}
 use Rattle.plane.proofs.Bounds.{inside-factor, inside-wider, inside-along}
-use Rattle.plane.proofs.Steps.{multiply}
 use Rattle.direction.specs.Sequence.{turned, scale}
 use Rattle.direction.proofs.Sizes.{turn-inside, turned-inside}
 use Rattle.direction.proofs.sequence.turned.Statement.{statement}
 use Rattle.direction.proofs.sequence.turned.Tie as tie
-
-times-requires : tie.Need-times-requires
-times-requires c κs = multiply (turn-inside (c .pre .0)) (c .pre .1) tt tt tt
 
 rounded-requires : tie.Need-rounded-requires
 rounded-requires c κs =
@@ -28,4 +25,4 @@ returns c =
     (e, inside-along e (turned-inside (h .0) (h .1)))
 
 pub turned-spec : {M : Type 1} → statement M
-turned-spec = tie.close (tie.spec times-requires rounded-requires returns)
+turned-spec = tie.close (tie.spec (λ c κs. search (needs, turn-inside)) rounded-requires returns)

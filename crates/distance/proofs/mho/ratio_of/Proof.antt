@@ -1,5 +1,6 @@
 -- `distance::mho::ratio_of` meets its contract: n and m are in the range of the rule.
 use mathlib.Core.Path.{_≡_, ap, _∙_}
+use borrow.Author.Needs.{needs}
 use Rattle.whole.proofs.Machine.{back}
 use Rattle.whole.proofs.Size.{wider, along}
 use Rattle.plane.specs.declared.Phasor.{Phasor}
@@ -13,12 +14,6 @@ use Rattle.distance.proofs.mho.ratio_of.Tie as tie
 -- m
 m-is : (c : tie.After-dot2) → c .dot2 .result ≡ ratioOf (c .before .before .before .args .z) (c .before .before .before .args .l) .m
 m-is c = c .dot2 .ensures ∙ ap (λ (p : Phasor). dot p (c .before .before .before .args .l .vp)) (c .before .times .ensures)
-
-dot-requires : tie.Need-dot-requires
-dot-requires c κs = let h = c .pre .1 in multiply (h .voltage) (h .polarising) tt tt tt
-
-times-requires : tie.Need-times-requires
-times-requires c κs = let h = c .before .pre in multiply (h .0) (h .1 .current) tt tt tt
 
 dot-requires-2 : tie.Need-dot-requires-2
 dot-requires-2 c κs =
@@ -39,4 +34,4 @@ returns c =
     )
 
 pub ratio-of-spec : {M : Type 1} → statement M
-ratio-of-spec = tie.close (tie.spec dot-requires times-requires dot-requires-2 returns)
+ratio-of-spec = tie.close (tie.spec (λ c κs. search needs) (λ c κs. search needs) dot-requires-2 returns)

@@ -1,0 +1,2 @@
+-- The laws that a reader will look for.
+pub mod Laws
