@@ -17,12 +17,14 @@ static void same_window(const char *name, int ends) {
   (void)name;
   (void)ends;
   same_decided(&slices);
-  turn_on(&slices);
+  turn_on_second_zone(&slices);
+  same_decided(&slices);
+  turn_on_quadrilaterals(&slices);
   same_decided(&slices);
 }
 
 /* The nth call of each kind, as it is and spoiled. */
-static void same_nth(long n, second_zone zone) {
+static void same_nth(long n, added_zones zone) {
   for (which_call which = PROPOSE; which < CALLS; which++) {
     lend_nth(&slices, which, n, zone);
     same(which, &slices);
@@ -36,10 +38,11 @@ static void compare(long windows) {
   same_zones();
   same_balanced();
   same_changes();
+  same_quadrilaterals();
   same_events();
   for_each_window(same_window);
   for (long n = 0; n < windows; n++)
-    for (second_zone zone = OFF; zone < ZONES; zone++) same_nth(n, zone);
+    for (added_zones zone = OFF; zone < ZONES; zone++) same_nth(n, zone);
   same_runs(windows);
   print_compared();
 }
@@ -90,7 +93,7 @@ static void time_tables(void) {
 /* Stack */
 
 /* The deepest that a call of this version goes, its return address included, over the sequence of calls as they are and spoiled. */
-static long stack_bytes(int v, which_call which, long windows, second_zone zone) {
+static long stack_bytes(int v, which_call which, long windows, added_zones zone) {
   long deepest = 0;
   lend_nth(&slices, which, 0, zone);
   const uint8_t *top = counted(v, which).stack + RETURN_ADDRESS;
@@ -105,12 +108,13 @@ static long stack_bytes(int v, which_call which, long windows, second_zone zone)
 
 static void stack_table(long windows) {
   printf("\nBytes of stack from the return address to the deepest byte written, the red zone below the stack pointer among them.\n");
-  printf("The most of %ld calls, half of them with a missing sample, another byte in the record or another thing wrong\n\n", 2 * windows);
-  printf("         %21s%21s\n", "second zone off", "second zone on");
+  printf("The most of %ld calls, half of them with a missing sample, another byte in the record or another thing wrong.\n", 2 * windows);
+  printf("Added zones: the second zone and the quadrilaterals\n\n");
+  printf("         %21s%21s\n", "added zones off", "added zones on");
   printf("call        archive  plain -O3   archive  plain -O3\n");
   for (which_call which = PROPOSE; which < CALLS; which++) {
     printf("%-9s", call_names[which]);
-    for (second_zone zone = OFF; zone < ZONES; zone++)
+    for (added_zones zone = OFF; zone < ZONES; zone++)
       printf("%10ld%11ld", stack_bytes(ARCHIVE, which, windows, zone), stack_bytes(PLAIN_O3, which, windows, zone));
     printf("\n");
   }
@@ -129,6 +133,7 @@ int main(int arguments, char **words) {
   instruction_tables();
   second_zone_tables();
   change_tables();
+  quadrilateral_tables();
   event_tables();
   time_tables();
   stack_table(windows);

@@ -38,7 +38,7 @@ void read_fed(lent *feed, int status) {
   feed->in_len = record_length(feed);
 }
 
-void lend_nth_event(lent *to, which_call call, long n, second_zone zone) {
+void lend_nth_event(lent *to, which_call call, long n, added_zones zone) {
   int status = (int)(n % (MOST_STATUS + 1));
   lend_nth(to, FEED, n, zone);
   to->ends = (uint64_t)ends_of(to);

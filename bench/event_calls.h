@@ -24,7 +24,7 @@ void read_fed(lent *feed, int status);
 
 /* The nth call as lend_nth has it: the reader is at the start of a file of the relay's ends, and a record is lent whole. And how it is
 ** spoiled. */
-void lend_nth_event(lent *to, which_call call, long n, second_zone zone);
+void lend_nth_event(lent *to, which_call call, long n, added_zones zone);
 void spoil_event(lent *slices, which_call call);
 
 #endif

@@ -159,9 +159,9 @@ static void widen(extent *to, steps s) {
 /* Of one call, by the ends of the line. */
 typedef extent extents[MOST_ENDS + 1];
 
-static void print_extents(which_call which, second_zone zone, const extent *of) {
+static void print_extents(which_call which, added_zones zone, const extent *of) {
   int at = FEWEST_ENDS;
-  printf("\n%s, second zone %s\nends  windows        fewest          most\n", call_names[which], zone_names[zone]);
+  printf("\n%s, second zone and quadrilaterals %s\nends  windows        fewest          most\n", call_names[which], zone_names[zone]);
   for (int ends = FEWEST_ENDS; ends <= MOST_ENDS; ends++) {
     printf("%4d%9ld", ends, of[ends].windows);
     print_count(of[ends].fewest);
@@ -172,7 +172,7 @@ static void print_extents(which_call which, second_zone zone, const extent *of) 
   printf("The most: %ld, with %d ends.\n", all(of[at].most), at);
 }
 
-static void widen_nth(long n, second_zone zone, extents decide, extents feed) {
+static void widen_nth(long n, added_zones zone, extents decide, extents feed) {
   lend_nth(&slices, DECIDE, n, zone);
   widen(&decide[ends_of(&slices)], counted(ARCHIVE, DECIDE));
   feed_newest(&slices);
@@ -182,17 +182,18 @@ static void widen_nth(long n, second_zone zone, extents decide, extents feed) {
 void extent_tables(long windows) {
   extents decide[ZONES] = {{{0}}}, feed[ZONES] = {{{0}}};
   for (long n = 0; n < windows; n++) {
-    for (second_zone zone = OFF; zone < ZONES; zone++) widen_nth(n, zone, decide[zone], feed[zone]);
+    for (added_zones zone = OFF; zone < ZONES; zone++) widen_nth(n, zone, decide[zone], feed[zone]);
     if ((n + 1) % 500 == 0) fprintf(stderr, "%ld of %ld windows counted\n", n + 1, windows);
   }
   printf("\nThe archive, instructions over %ld windows, extreme and drawn, by extreme and drawn records\n", windows);
-  for (second_zone zone = OFF; zone < ZONES; zone++) {
+  for (added_zones zone = OFF; zone < ZONES; zone++) {
     print_extents(DECIDE, zone, decide[zone]);
     print_extents(FEED, zone, feed[zone]);
   }
   printf("\nThe count is bounded: a loop turns once for each end, phase, frame, sample or byte of a record, and at most seven times\n");
   printf("for the slope at which a phase changes. Only the root calls itself, once for each bit of it: at most 26 calls with the\n");
   printf("first. The value of a sample decides how many, and besides some short branches: the pickups, the slopes that are tried,\n");
-  printf("the sign of m and what trips. Whether the second zone is on is decided by the record.\n");
+  printf("the sign of m, whether a fault is ahead, the tops and sides of the quadrilaterals, and what trips. Whether the second\n");
+  printf("zone and the quadrilaterals are on is decided by the record.\n");
   printf("A missing sample adds a search over the samples, after which the call ends.\n");
 }

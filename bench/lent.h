@@ -14,6 +14,7 @@ enum {
   MOST_STATUS = 96, /* channels of an event file */
   LONGEST_RECORD = GORSEPETAL_EVENTS_RECORD_BYTES(MOST_ENDS, MOST_STATUS),
   LARGEST_REACH = 2000, /* thousandths of the replica */
+  LARGEST_RESISTIVE_REACH = 1000, /* tenths */
   BEYOND = 8, /* bytes after each slice, which no call may touch */
 };
 

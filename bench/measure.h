@@ -29,11 +29,12 @@ void print_ratio(long mine, long theirs);
 void print_beside_plain(which_call which);
 void table_by_ends(const char *what, which_call which, void (*lend)(int ends));
 
-/* How many instructions the calls take, in tables; what the second zone, the slopes at which the phases change and event files cost; the
-** most over so many windows. */
+/* How many instructions the calls take, in tables; what the second zone, the slopes at which the phases change, the quadrilaterals and
+** event files cost; the most over so many windows. */
 void instruction_tables(void);
 void second_zone_tables(void);
 void change_tables(void);
+void quadrilateral_tables(void);
 void event_tables(void);
 void extent_tables(long windows);
 

@@ -1,7 +1,7 @@
 /*
-** Document 01, feeding, the second zone, balanced faults, event files and the slope at which a phase changes, as one would write them in C:
-** tables, 64-bit sums, one quantity after another. It is the measure for the library's speed and nothing else: its answers are compared
-** with the library's before anything is counted.
+** Document 01, feeding, the second zone, balanced faults, event files, the slope at which a phase changes and the quadrilaterals, as one
+** would write them in C: tables, 64-bit sums, one quantity after another. It is the measure for the library's speed and nothing else: its
+** answers are compared with the library's before anything is counted.
 **
 ** It is compiled six times, each time under the name PLAIN: at -O2 and at -O3, and with one of three roots. By itself the root is a
 ** whole-number one, a bit of the result a turn, beginning at the highest bit there is. DOUBLE_ROOT takes the processor's square root of a
@@ -62,7 +62,8 @@ static size_t fault(const uint8_t *r) {
   if (outside(unsigned_at(r, 24), 1, 42000)) return 24;
   int64_t second_reach = unsigned_at(r, 26);
   if (second_reach != 0 && outside(second_reach, unsigned_at(r, 10), 2000)) return 26;
-  for (size_t at = 28; at < RECORD; at++)
+  if (outside(unsigned_at(r, 28), 0, 1000)) return 28;
+  for (size_t at = 30; at < RECORD; at++)
     if (r[at] != 0) return at;
   return RECORD;
 }
@@ -126,11 +127,14 @@ static int64_t rounded_thousandths(int64_t x) {
   return quotient * 1000 > x + 500 ? quotient - 1 : quotient;
 }
 
+static int64_t magnitude(int64_t x) { return x < 0 ? -x : x; }
+
 static phasor plus(phasor p, phasor q) { return (phasor){p.re + q.re, p.im + q.im}; }
 static phasor minus(phasor p, phasor q) { return (phasor){p.re - q.re, p.im - q.im}; }
 static phasor times(phasor p, phasor q) { return (phasor){p.re * q.re - p.im * q.im, p.re * q.im + p.im * q.re}; }
 static phasor minus_j(phasor p) { return (phasor){p.im, -p.re}; }
-static int64_t dot(phasor p, phasor q) { return p.re * q.re + p.im * q.im; } /* Re(p q*) */
+static int64_t dot(phasor p, phasor q) { return p.re * q.re + p.im * q.im; }   /* Re(p q*) */
+static int64_t cross(phasor p, phasor q) { return p.im * q.re - p.re * q.im; } /* Im(p q*) */
 
 static phasor measure(const int16_t *window, size_t channels, size_t channel) {
   int64_t a = 0, b = 0;
@@ -170,6 +174,14 @@ static negative_sequence direction(const uint8_t *r, const phasor *v, const phas
 
 /* Mho loops, from the same */
 
+static phasor residual(const phasor *i) { return plus(plus(i[0], i[1]), i[2]); } /* Ir */
+
+/* The k product, which the ground loops add to the current of their phase. */
+static phasor compensation(const uint8_t *r, phasor ir) {
+  phasor exact = times((phasor){unsigned_at(r, 12), signed_at(r, 14)}, ir);
+  return (phasor){rounded_thousandths(exact.re), rounded_thousandths(exact.im)};
+}
+
 /* The loops that assert in each zone: AG, BG, CG from bit 0 on, AB, BC, CA from bit 3 on. */
 typedef struct {
   int first, second;
@@ -192,15 +204,31 @@ static void put_loop(zones *to, size_t bit, const mho *set, phasor v, phasor i, 
 
 static zones loops(const uint8_t *r, const phasor *v, const phasor *i) {
   mho set = {{unsigned_at(r, 6), unsigned_at(r, 8)}, unsigned_at(r, 10), unsigned_at(r, 26)};
-  phasor k = {unsigned_at(r, 12), signed_at(r, 14)};
   phasor p = sequence(v, A, A2), ap = over_16384(times(A, p)), a2p = over_16384(times(A2, p));
-  phasor exact = times(k, plus(plus(i[0], i[1]), i[2])), k_product = {rounded_thousandths(exact.re), rounded_thousandths(exact.im)};
+  phasor k_product = compensation(r, residual(i));
   const phasor ground[PHASES] = {p, a2p, ap}, phase[PHASES] = {ap, p, a2p};
   zones bits = {0, 0};
   for (size_t x = 0; x < PHASES; x++) {
     size_t y = (x + 1) % PHASES;
     put_loop(&bits, x, &set, v[x], plus(i[x], k_product), ground[x]);
     put_loop(&bits, PHASES + x, &set, minus(v[x], v[y]), minus(i[x], i[y]), minus_j(phase[x]));
+  }
+  return bits;
+}
+
+/* Quadrilaterals, from the same, for a fault ahead */
+
+/* Those that operate: A, B, C from bit 0 on. Im[(r Z I - 1000000 V) Ir*] is minus (r q + 1000000 Im[V Ir*]). */
+static int quadrilaterals(const uint8_t *r, const phasor *v, const phasor *i) {
+  int64_t reach = unsigned_at(r, 10), resistive_reach = unsigned_at(r, 28);
+  phasor z = {unsigned_at(r, 6), unsigned_at(r, 8)}, ir = residual(i), k_product = compensation(r, ir);
+  int bits = 0;
+  for (size_t x = 0; x < PHASES; x++) {
+    phasor drop = times(z, plus(i[x], k_product));
+    int64_t n = cross(v[x], drop), q = cross(ir, drop);
+    int below_top = reach * q + 1000000 * cross(v[x], ir) < 0;
+    int between_sides = q != 0 && 10 * magnitude(n) <= resistive_reach * magnitude(q);
+    bits |= (below_top & between_sides) << x;
   }
   return bits;
 }
@@ -298,8 +326,9 @@ static void decision(const uint8_t *r, const int16_t *window, uint8_t *out) {
   int phases = differential(r, currents, out + 5, out + 8, out + 20);
   negative_sequence found = direction(r, v, local);
   zones asserting = loops(r, v, local);
-  out[0] = phases != 0 || distance(found, asserting.first);
-  out[1] = (uint8_t)phases;
+  int resistive = found.way == FORWARD && unsigned_at(r, 28) != 0 ? quadrilaterals(r, v, local) : 0;
+  out[0] = phases != 0 || distance(found, asserting.first) || resistive != 0;
+  out[1] = (uint8_t)(phases | resistive << PHASES);
   out[2] = (uint8_t)asserting.first;
   out[3] = (uint8_t)found.way;
   out[4] = (uint8_t)asserting.second;

@@ -15,8 +15,8 @@ typedef struct {
   int frame;   /* that comes next */
 } run;
 
-/* Whether the second zone of a record in the sequence is on: so that a relay goes from off to on, and back. */
-static second_zone zone_of(long record) { return record / 2 % ZONES; }
+/* Whether the added zones of a record in the sequence are on: so that a relay goes from off to on, and back. */
+static added_zones zone_of(long record) { return record / 2 % ZONES; }
 
 /* Makes the call with all versions, and leaves what it left to the next one. */
 static uint64_t go_on(run *r, which_call call) {

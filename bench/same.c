@@ -72,18 +72,19 @@ static void same_with_other_rooms(which_call call, lent *slices) {
 }
 
 /* Every field at the edges of every range, and the spare bytes, beside a second reach that is off, that is on, and that is below the first,
-** which is 850. */
+** which is 850; and beside a resistive reach that is off, and that is out of range. */
 static void propose_refusals(void) {
   static const int edges[] = {0,    1,    2,    6,    7,    44,    45,    100,   101,   256,   257,    300,    500,  501,  849,  850, 998,
                               999,  1000, 1001, 2000, 2001, 20000, 20001, 32767, 42000, 42001, -20001, -20000, -501, -500, -300, -1};
-  static const int second_reaches[] = {0, 1200, 849};
+  static const int reaches[][2] = {{0, 0}, {1200, 0}, {849, 0}, {0, 1001}, {1200, 1001}, {849, 1001}};
   for (int at = 0; at < RECORD; at += 2)
     for (size_t k = 0; k < sizeof edges / sizeof *edges; k++)
-      for (size_t second = 0; second < sizeof second_reaches / sizeof *second_reaches; second++) {
+      for (size_t pair = 0; pair < sizeof reaches / sizeof *reaches; pair++) {
         lent slices;
         lend_nth(&slices, PROPOSE, 0, OFF);
         good_record(slices.in, FEWEST_ENDS);
-        put(slices.in, GORSEPETAL_AT_SECOND_REACH, second_reaches[second]);
+        put(slices.in, GORSEPETAL_AT_SECOND_REACH, reaches[pair][0]);
+        put(slices.in, GORSEPETAL_AT_RESISTIVE_REACH, reaches[pair][1]);
         put(slices.in, at, edges[k]);
         good_record(slices.state, MOST_ENDS);
         good_record(slices.state + RECORD, MOST_ENDS);
@@ -105,7 +106,7 @@ static void confirm_refusals(void) {
     }
 }
 
-/* A good record in force, one that is out of range at each byte, and none. */
+/* A good record in force, one with another byte at each place, and none. */
 static void read_back_refusals(void) {
   lent slices;
   for (int at = 0; at < RECORD; at++) {
@@ -244,6 +245,48 @@ void same_changes(void) {
           put(slices.state, GORSEPETAL_AT_PICKUP, 20 * c + beside[k]);
           same_decided(&slices);
         }
+}
+
+/* Resistive reaches about 10, at which the faults have their edges, and about the edges of the range. */
+static const int resistive_reaches[] = {0, 1, 9, 10, 11, 255, 256, 999, 1000, 1001, -1};
+enum { RESISTIVE_REACHES = sizeof resistive_reaches / sizeof *resistive_reaches };
+
+/* By this record, with each of them and beside a second reach or none. */
+static void same_resistive_reaches(lent *window) {
+  for (int k = 0; k < 2 * RESISTIVE_REACHES; k++) {
+    put(window->state, GORSEPETAL_AT_RESISTIVE_REACH, resistive_reaches[k / 2]);
+    put(window->state, GORSEPETAL_AT_SECOND_REACH, k % 2 ? LARGEST_REACH : 0);
+    same_proposed(window);
+    same_decided(window);
+  }
+}
+
+/* With limits that make it forward, reverse and none, and with a pickup that 3I2 does not reach. */
+static void same_directions(lent *window) {
+  static const int ways[][3] = {{19999, 20000, 50}, {-20000, -19999, 50}, {-20000, 20000, 50}, {19999, 20000, 42000}};
+  for (size_t way = 0; way < sizeof ways / sizeof *ways; way++) {
+    put(window->state, GORSEPETAL_AT_FORWARD_LIMIT, ways[way][0]);
+    put(window->state, GORSEPETAL_AT_REVERSE_LIMIT, ways[way][1]);
+    put(window->state, GORSEPETAL_AT_NEGATIVE_SEQUENCE_PICKUP, ways[way][2]);
+    same_resistive_reaches(window);
+  }
+}
+
+void same_quadrilaterals(void) {
+  lent slices;
+  for (int ends = FEWEST_ENDS; ends <= MOST_ENDS; ends++) {
+    for (resistive_fault fault = BELOW_TOP; fault < RESISTIVE_FAULTS; fault++)
+      for (int phase = 0; phase < 3; phase++) {
+        lend_resistive(&slices, ends, fault, phase);
+        same_directions(&slices);
+      }
+    for (int set = 0; set < SETS; set++) {
+      lend_quadrilaterals(&slices, ends, set);
+      same_directions(&slices);
+    }
+    lend_full_scale(&slices, ends);
+    same_directions(&slices);
+  }
 }
 
 void print_compared(void) {

@@ -22,6 +22,9 @@ void same_balanced(void);
 /* The same for every slope at which a phase can change, with slopes and pickups about it. */
 void same_changes(void);
 
+/* The same about the edges of the quadrilaterals, in every direction, and for every set of them. */
+void same_quadrilaterals(void);
+
 /* The same for event files: every refusal, readers of all kinds, damaged ones too, and records cut at each place. */
 void same_events(void);
 

@@ -24,15 +24,18 @@ static void print_line(const char *name, int ends, const steps *off, const steps
   if (above > largest) largest = above;
 }
 
+static void count_both(which_call which, steps *of) {
+  of[ARCHIVE] = counted(ARCHIVE, which);
+  of[PLAIN_O3] = counted(PLAIN_O3, which);
+}
+
 /* The call that is lent, with the zone off and then on. */
 static void zone_line(which_call which, const char *name, int ends) {
-  steps of[ZONES][VERSIONS];
-  for (second_zone zone = OFF; zone < ZONES; zone++) {
-    if (zone == ON) turn_on(&slices);
-    of[zone][ARCHIVE] = counted(ARCHIVE, which);
-    of[zone][PLAIN_O3] = counted(PLAIN_O3, which);
-  }
-  print_line(name, ends, of[OFF], of[ON]);
+  steps off[VERSIONS], on[VERSIONS];
+  count_both(which, off);
+  turn_on_second_zone(&slices);
+  count_both(which, on);
+  print_line(name, ends, off, on);
 }
 
 static void decide_line(const char *name, int ends) { zone_line(DECIDE, name, ends); }

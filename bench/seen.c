@@ -1,5 +1,5 @@
-/* What the compared calls showed of the second zone, of balanced faults, of the slopes at which the phases change and of event files,
-** counted. */
+/* What the compared calls showed of the second zone, of balanced faults, of the slopes at which the phases change, of the quadrilaterals
+** and of event files, counted. */
 #include <stdio.h>
 #include <stdlib.h>
 #include <string.h>
@@ -9,7 +9,8 @@
 
 enum { PHASES = 3, SLOPES = 100, LOOPS = 6, PHASE_LOOPS = GORSEPETAL_LOOP_AB + GORSEPETAL_LOOP_BC + GORSEPETAL_LOOP_CA };
 
-/* Of the second zone, then of balanced faults, then of the slopes at which the phases change, then of event files. */
+/* Of the second zone, then of balanced faults, then of the slopes at which the phases change, then of the quadrilaterals, then of event
+** files. */
 enum {
   ALONE, /* one for each loop, from AG on */
   OFF_BESIDE_FIRST = ALONE + LOOPS,
@@ -50,7 +51,31 @@ enum {
   NO_C_BY_SLOPE,
   NO_C_BY_PICKUP,
   C_AT_THE_PICKUP,
-  OF_EVENT_FILES,
+  OF_QUADRILATERALS,
+  QUADRILATERAL = OF_QUADRILATERALS, /* one for each, from A on */
+  DIFFERENT_SETS = QUADRILATERAL + PHASES,
+  BY_QUADRILATERALS_ALONE,
+  BESIDE_PHASE_AND_LOOP,
+  AT_SMALLEST_R,
+  AT_LARGEST_R,
+  INSIDE_AT_R_0,
+  UNDER_THE_TOP,
+  ON_THE_TOP,
+  ON_SIDES,                    /* one for each side */
+  BEYOND_SIDES = ON_SIDES + 2, /* the same */
+  WITH_Q_0 = BEYOND_SIDES + 2,
+  WITH_Q_ABOVE_0,
+  ON_THE_TOP_TURNED_ROUND,
+  WITH_NO_RESIDUAL,
+  WITH_NO_POLARISING,
+  INSIDE_AND_REVERSE,
+  INSIDE_BETWEEN_LIMITS,
+  INSIDE_BELOW_PICKUP,
+  ABOVE_LARGEST_R,
+  ABOVE_BY_LOWER_BYTE,
+  SPARE_BYTES,                 /* one for each */
+  R_DIFFERS = SPARE_BYTES + 2, /* one for each byte of R */
+  OF_EVENT_FILES = R_DIFFERS + 2,
   OPENED = OF_EVENT_FILES,
   OPEN_REFUSED,
   READER_OF_OTHER_LENGTH,
@@ -130,6 +155,35 @@ static const char *const kinds[KINDS] = {
     [NO_C_BY_SLOPE] = "c of 0, and the pickup is reached",
     [NO_C_BY_PICKUP] = "c of 0 below the pickup, with some differential",
     [C_AT_THE_PICKUP] = "a differential at its pickup, and c above 0",
+    [QUADRILATERAL] = "quadrilateral A operates",
+    [QUADRILATERAL + 1] = "quadrilateral B operates",
+    [QUADRILATERAL + 2] = "quadrilateral C operates",
+    [DIFFERENT_SETS] = "different sets of them, of 8, at an R above 0",
+    [BY_QUADRILATERALS_ALONE] = "trip with no phase operating and no loop",
+    [BESIDE_PHASE_AND_LOOP] = "a quadrilateral beside a phase and a loop",
+    [AT_SMALLEST_R] = "one operates at an R of 1",
+    [AT_LARGEST_R] = "one operates at an R of 1000",
+    [INSIDE_AT_R_0] = "R of 0 and n of 0: none",
+    [UNDER_THE_TOP] = "one count below the top: it operates",
+    [ON_THE_TOP] = "on the top: it does not",
+    [ON_SIDES] = "on one side: it operates",
+    [ON_SIDES + 1] = "on the other: it operates",
+    [BEYOND_SIDES] = "one count beyond one side: it does not",
+    [BEYOND_SIDES + 1] = "one count beyond the other: it does not",
+    [WITH_Q_0] = "n and q of 0: it does not",
+    [WITH_Q_ABOVE_0] = "q above 0, beyond the top: it operates",
+    [ON_THE_TOP_TURNED_ROUND] = "q above 0, on the top: it does not",
+    [WITH_NO_RESIDUAL] = "Ir of 0: none",
+    [WITH_NO_POLARISING] = "3V1 of 0: it operates, and no loop asserts",
+    [INSIDE_AND_REVERSE] = "inside, and reverse: none",
+    [INSIDE_BETWEEN_LIMITS] = "inside, T between the limits: none",
+    [INSIDE_BELOW_PICKUP] = "inside, 3I2 below its pickup: none",
+    [ABOVE_LARGEST_R] = "refused 6 at 28",
+    [ABOVE_BY_LOWER_BYTE] = "the same, for an R of 1001",
+    [SPARE_BYTES] = "refused 6 at 30",
+    [SPARE_BYTES + 1] = "refused 6 at 31",
+    [R_DIFFERS] = "refused 8 at 28",
+    [R_DIFFERS + 1] = "refused 8 at 29",
     [OPENED] = "a file opened",
     [OPEN_REFUSED] = "open refused 13",
     [READER_OF_OTHER_LENGTH] = "a reader of another length",
@@ -182,7 +236,7 @@ static void see_second_zone(const uint8_t *record, const uint8_t *decision) {
 
 /* What the decision's bytes alone tell. All three phase loops without a direction trip, unless 3I2 reaches its pickup. */
 static void see_phase_loops(const uint8_t *decision) {
-  int phases = decision[GORSEPETAL_DECISION_AT_PHASES], loops = decision[GORSEPETAL_DECISION_AT_LOOPS];
+  int phases = decision[GORSEPETAL_DECISION_AT_PHASES] & GORSEPETAL_PHASES, loops = decision[GORSEPETAL_DECISION_AT_LOOPS];
   int way = decision[GORSEPETAL_DECISION_AT_DIRECTION], trip = decision[GORSEPETAL_DECISION_AT_TRIP];
   if ((loops & PHASE_LOOPS) != PHASE_LOOPS) return;
   int none = way == GORSEPETAL_DIRECTION_NONE;
@@ -218,6 +272,56 @@ static void see_changes(const uint8_t *record, const uint8_t *decision) {
   seen[THREE_DIFFERENT] += c[0] != c[1] && c[1] != c[2] && c[2] != c[0] && c[0] != 0 && c[1] != 0 && c[2] != 0;
 }
 
+/* What the decision's bytes and R alone tell. */
+static void see_quadrilaterals(const uint8_t *record, const uint8_t *decision) {
+  static long times[GORSEPETAL_QUADRILATERALS + 1];
+  int phases = decision[GORSEPETAL_DECISION_AT_PHASES] & GORSEPETAL_PHASES, loops = decision[GORSEPETAL_DECISION_AT_LOOPS];
+  int operating = decision[GORSEPETAL_DECISION_AT_PHASES] & GORSEPETAL_QUADRILATERALS, r = field(record, GORSEPETAL_AT_RESISTIVE_REACH);
+  for (int phase = 0; phase < PHASES; phase++) seen[QUADRILATERAL + phase] += (operating & GORSEPETAL_QUADRILATERAL_A << phase) != 0;
+  seen[DIFFERENT_SETS] += r != 0 && times[operating]++ == 0;
+  seen[BY_QUADRILATERALS_ALONE] += operating != 0 && phases == 0 && loops == 0 && decision[GORSEPETAL_DECISION_AT_TRIP] == 1;
+  seen[BESIDE_PHASE_AND_LOOP] += operating != 0 && phases != 0 && loops != 0;
+  seen[AT_SMALLEST_R] += operating != 0 && r == 1;
+  seen[AT_LARGEST_R] += operating != 0 && r == LARGEST_RESISTIVE_REACH;
+}
+
+/* The fault that decide was lent, if it is one of a phase to ground with exact edges; its phase goes to *of. Else RESISTIVE_FAULTS. */
+static resistive_fault resistive_lent(const lent *left, int *of) {
+  lent made;
+  for (resistive_fault fault = BELOW_TOP; fault < RESISTIVE_FAULTS; fault++)
+    for (*of = 0; *of < PHASES; ++*of) {
+      lend_resistive(&made, ends_of(left), fault, *of);
+      if (memcmp(left->in, made.in, sizeof made.in) == 0) return fault;
+    }
+  return RESISTIVE_FAULTS;
+}
+
+/* What only the fault itself tells: on which side of an edge it lies. R is 10, and the direction forward, if nothing else is said. */
+static void see_resistive(const lent *left) {
+  const uint8_t *record = left->state, *decision = left->out;
+  if (field(record, GORSEPETAL_AT_REACH) != 800 || field(record, GORSEPETAL_AT_K_REAL) != 500) return; /* none of them: no need to look */
+  int phase, way = decision[GORSEPETAL_DECISION_AT_DIRECTION], r = field(record, GORSEPETAL_AT_RESISTIVE_REACH);
+  resistive_fault fault = resistive_lent(left, &phase);
+  int operating = decision[GORSEPETAL_DECISION_AT_PHASES], none = operating == 0, it = operating == GORSEPETAL_QUADRILATERAL_A << phase;
+  int below_pickup = field(record, GORSEPETAL_AT_NEGATIVE_SEQUENCE_PICKUP) == 42000, forward = way == GORSEPETAL_DIRECTION_FORWARD;
+  seen[INSIDE_AT_R_0] += fault == BELOW_TOP && forward && r == 0 && none;
+  seen[WITH_NO_RESIDUAL] += fault == NO_RESIDUAL && forward && r != 0 && none;
+  seen[WITH_Q_0] += fault == NO_LOOP_CURRENT && forward && r != 0 && none;
+  seen[INSIDE_AND_REVERSE] += fault == BELOW_TOP && way == GORSEPETAL_DIRECTION_REVERSE && r != 0 && none;
+  seen[INSIDE_BETWEEN_LIMITS] += fault == BELOW_TOP && way == GORSEPETAL_DIRECTION_NONE && !below_pickup && r != 0 && none;
+  seen[INSIDE_BELOW_PICKUP] += fault == BELOW_TOP && way == GORSEPETAL_DIRECTION_NONE && below_pickup && r != 0 && none;
+  if (!forward || r != 10) return;
+  seen[UNDER_THE_TOP] += fault == BELOW_TOP && it;
+  seen[ON_THE_TOP] += fault == ON_TOP && none;
+  seen[ON_SIDES] += fault == ON_SIDE && it;
+  seen[ON_SIDES + 1] += fault == ON_OTHER_SIDE && it;
+  seen[BEYOND_SIDES] += fault == BEYOND_SIDE && none;
+  seen[BEYOND_SIDES + 1] += fault == BEYOND_OTHER_SIDE && none;
+  seen[WITH_Q_ABOVE_0] += fault == TURNED_ROUND && it;
+  seen[ON_THE_TOP_TURNED_ROUND] += fault == TURNED_ROUND_TOP && none;
+  seen[WITH_NO_POLARISING] += fault == NO_POLARISING && it && decision[GORSEPETAL_DECISION_AT_LOOPS] == 0;
+}
+
 /* Whether decide was lent this fault. */
 static int was_lent(const lent *left, balanced_fault fault, int i2) {
   lent made;
@@ -244,7 +348,10 @@ static void see_decision(which_call call, const lent *left) {
   see_second_zone(left->state, left->out);
   see_phase_loops(left->out);
   see_changes(left->state, left->out);
-  if (call == DECIDE) see_balanced(left);
+  see_quadrilaterals(left->state, left->out);
+  if (call != DECIDE) return;
+  see_balanced(left);
+  see_resistive(left);
 }
 
 static void see_second_reach_refused(const uint8_t *entry) {
@@ -317,6 +424,13 @@ void see(which_call call, uint64_t answer, const lent *left) {
   if (number == GORSEPETAL_OUT_OF_RANGE && place == GORSEPETAL_AT_SECOND_REACH) see_second_reach_refused(left->in);
   seen[DIFFERS_IN_UPPER_BYTE] += number == GORSEPETAL_DIFFERS && place == GORSEPETAL_AT_SECOND_REACH;
   seen[DIFFERS_IN_LOWER_BYTE] += number == GORSEPETAL_DIFFERS && place == GORSEPETAL_AT_SECOND_REACH + 1;
+  int above = number == GORSEPETAL_OUT_OF_RANGE && place == GORSEPETAL_AT_RESISTIVE_REACH;
+  seen[ABOVE_LARGEST_R] += above;
+  seen[ABOVE_BY_LOWER_BYTE] += above && field(left->in, GORSEPETAL_AT_RESISTIVE_REACH) == LARGEST_RESISTIVE_REACH + 1;
+  for (int byte = 0; byte < 2; byte++) {
+    seen[SPARE_BYTES + byte] += number == GORSEPETAL_OUT_OF_RANGE && place == GORSEPETAL_AT_RESISTIVE_REACH + 2 + byte;
+    seen[R_DIFFERS + byte] += number == GORSEPETAL_DIFFERS && place == GORSEPETAL_AT_RESISTIVE_REACH + byte;
+  }
 }
 
 /* The kinds from one to before another; gives back how many were never seen. */
@@ -334,8 +448,10 @@ void print_seen(void) {
   printf("\nSeen in these calls\n");
   int never = print_kinds("The second zone:", 0, OF_BALANCED_FAULTS);
   never += print_kinds("Balanced faults:", OF_BALANCED_FAULTS, OF_CHANGES);
-  never += print_kinds("The slopes at which the phases change:", OF_CHANGES, OF_EVENT_FILES);
+  never += print_kinds("The slopes at which the phases change:", OF_CHANGES, OF_QUADRILATERALS);
   never += SLOPES - (int)seen[DIFFERENT_C];
+  never += print_kinds("The quadrilaterals:", OF_QUADRILATERALS, OF_EVENT_FILES);
+  never += SETS - (int)seen[DIFFERENT_SETS];
   never += print_kinds("Event files:", OF_EVENT_FILES, KINDS);
   if (never == 0) return;
   printf("%d of them never: the comparison says nothing of that\n", never);

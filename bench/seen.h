@@ -1,5 +1,5 @@
-/* What the compared calls showed of the second zone, of balanced faults, of the slopes at which the phases change and of event files: a
-** comparison in which a loop never asserted, or a rule never decided, would say nothing of it. */
+/* What the compared calls showed of the second zone, of balanced faults, of the slopes at which the phases change, of the quadrilaterals
+** and of event files: a comparison in which a loop never asserted, or a rule never decided, would say nothing of it. */
 #ifndef SEEN_H
 #define SEEN_H
 #include "lent.h"

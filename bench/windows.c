@@ -42,19 +42,22 @@ static void put_record(uint8_t *record, int ends, const int *settings) {
 
 void good_record(uint8_t *record, int ends) { put_record(record, ends, SETTINGS[DOCUMENTS]); }
 
-/* The second zone */
+/* The second zone and the quadrilaterals */
 
-enum { USUAL_SECOND_REACH = 1200 };
+enum { USUAL_SECOND_REACH = 1200, USUAL_RESISTIVE_REACH = 20 };
 
 const char *const zone_names[ZONES] = {"off", "on"};
 
-void turn_on(lent *window) { put(window->state, GORSEPETAL_AT_SECOND_REACH, USUAL_SECOND_REACH); }
+void turn_on_second_zone(lent *window) { put(window->state, GORSEPETAL_AT_SECOND_REACH, USUAL_SECOND_REACH); }
+void turn_on_quadrilaterals(lent *window) { put(window->state, GORSEPETAL_AT_RESISTIVE_REACH, USUAL_RESISTIVE_REACH); }
 
-/* Nothing is drawn for it, so that the windows are the same with it on and off. */
-static void put_nth_second_reach(uint8_t *record, long n) {
+/* Nothing is drawn for them, so that the windows are the same with them on and off. */
+static void put_nth_added_reaches(uint8_t *record, long n) {
   int first = record[GORSEPETAL_AT_REACH] << 8 | record[GORSEPETAL_AT_REACH + 1];
-  const int by_turns[] = {first, LARGEST_REACH, (first + LARGEST_REACH) / 2};
-  put(record, GORSEPETAL_AT_SECOND_REACH, by_turns[n % 3]);
+  const int second[] = {first, LARGEST_REACH, (first + LARGEST_REACH) / 2};
+  const int resistive[] = {USUAL_RESISTIVE_REACH, 1 + (int)(n % LARGEST_RESISTIVE_REACH), 1, LARGEST_RESISTIVE_REACH};
+  put(record, GORSEPETAL_AT_SECOND_REACH, second[n % 3]);
+  put(record, GORSEPETAL_AT_RESISTIVE_REACH, resistive[n % 4]);
 }
 
 /* Each field anywhere in its range; D is put on its circle and the reverse limit above the forward one. */
@@ -190,6 +193,53 @@ void lend_balanced(lent *to, int ends, balanced_fault fault, int i2) {
   }
 }
 
+/* The record for them: its Z is j 1000, and k = 500. So with Ir = (0, -1000) and no other current, Z I of the phase is (1500000, 0): the
+** top is at Re V = 1200, and the sides are at |Im V| = 1000. Of the other phases the top is at 400. */
+static void lend_resistive_line(lent *to, int ends) {
+  lend_dead(to, ends);
+  put(to->state, GORSEPETAL_AT_REACH, 800);
+  put(to->state, GORSEPETAL_AT_K_REAL, 500);
+  put(to->state, GORSEPETAL_AT_FORWARD_LIMIT, 19999);
+  put(to->state, GORSEPETAL_AT_REVERSE_LIMIT, 20000);
+  put(to->state, GORSEPETAL_AT_RESISTIVE_REACH, 10);
+}
+
+/* Of the phase the voltage; the two other voltages, which are real; and the currents of the phase and of the next one, times j. */
+static const struct {
+  int v[2], others, i, next;
+} RESISTIVE[RESISTIVE_FAULTS] = {
+    [BELOW_TOP] = {{1199, 0}, 4000, -1000, 0},
+    [ON_TOP] = {{1200, 0}, 4000, -1000, 0},
+    [ON_SIDE] = {{600, 1000}, 4000, -1000, 0},
+    [ON_OTHER_SIDE] = {{600, -1000}, 4000, -1000, 0},
+    [BEYOND_SIDE] = {{600, 1001}, 4000, -1000, 0},
+    [BEYOND_OTHER_SIDE] = {{600, -1001}, 4000, -1000, 0},
+    [NO_LOOP_CURRENT] = {{-1000, 0}, 4000, 1000, -3000}, /* Ir is -2000, and E takes the phase's current away */
+    [TURNED_ROUND] = {{401, 0}, -3000, -1000, 2000},     /* I is -500, and the top at 400 */
+    [TURNED_ROUND_TOP] = {{400, 0}, -3000, -1000, 2000},
+    [NO_RESIDUAL] = {{0, 0}, 4000, -1000, 1000},
+    [NO_POLARISING] = {{1000, 0}, 1000, -1000, 0},
+};
+
+void lend_resistive(lent *to, int ends, resistive_fault fault, int phase) {
+  int next = (phase + 1) % PHASES, last = (phase + 2) % PHASES;
+  lend_resistive_line(to, ends);
+  put_phasor(to, phase, RESISTIVE[fault].v[0], RESISTIVE[fault].v[1]);
+  put_phasor(to, next, RESISTIVE[fault].others, 0);
+  put_phasor(to, last, RESISTIVE[fault].others, 0);
+  through(to, phase, 0, RESISTIVE[fault].i);
+  through(to, next, 0, RESISTIVE[fault].next);
+}
+
+/* With E = (0, -1050) the tops are at Re V = 1160, 1400 and 1640. Inside there is no voltage, outside 4000 counts. 3I2 is 520 counts. */
+void lend_quadrilaterals(lent *to, int ends, int set) {
+  lend_resistive_line(to, ends);
+  for (int phase = 0; phase < PHASES; phase++) {
+    put_phasor(to, phase, set >> phase & 1 ? 0 : 4000, 0);
+    through(to, phase, 0, 300 * phase - 1000);
+  }
+}
+
 /* Of a feed that is lent: where the number with this index in its 16 frames stands. The oldest frame in the state is not among them. */
 static uint8_t *fed_number(lent *feed, int index) {
   int channels = channels_of(feed), newest = (FRAMES - 1) * channels;
@@ -219,6 +269,13 @@ static int extreme_sample(int kind, int frame, int channel) {
 
 static void put_extreme_channel(lent *to, int channel, int kind) {
   for (int frame = 0; frame < FRAMES; frame++) put_sample(to, frame, channel, extreme_sample(kind, frame, channel));
+}
+
+void lend_full_scale(lent *to, int ends) {
+  lend_resistive_line(to, ends);
+  for (int channel = 0; channel < channels_of(to); channel++) put_extreme_channel(to, channel, COSINE_SQUARE);
+  for (int end = 1; end <= ends; end++)
+    for (int n = 0; n < FRAMES; n++) put_sample(to, n, current(end, 2), COSINES[n] >= 0 ? LARGEST - 767 : 767 - LARGEST);
 }
 
 /* A steady wave, a square wave or noise, of any size from full scale downward. */
@@ -254,7 +311,7 @@ static void put_nth_window(lent *to, long n) {
       put_drawn_channel(to, channel);
 }
 
-void lend_nth(lent *to, which_call call, long n, second_zone zone) {
+void lend_nth(lent *to, which_call call, long n, added_zones zone) {
   if (call >= OPEN) {
     lend_nth_event(to, call, n, zone);
     return;
@@ -262,7 +319,7 @@ void lend_nth(lent *to, which_call call, long n, second_zone zone) {
   uint8_t record[RECORD];
   draw = (uint32_t)n * 2654435761u;
   put_nth_record(record, n);
-  if (zone == ON) put_nth_second_reach(record, n);
+  if (zone == ON) put_nth_added_reaches(record, n);
   lend_fresh(to);
   memset(to->state + GORSEPETAL_STATE_AT_COUNT, 0x5B, STATE - GORSEPETAL_STATE_AT_COUNT); /* a window to be left alone, or emptied */
   if (call == PROPOSE || call == CONFIRM) {

@@ -6,7 +6,7 @@
 /* A fresh relay, nothing to read, and room for 32 bytes. */
 void lend_fresh(lent *to);
 
-/* The record of document 01, "Window program", with so many ends. Its second zone is off. */
+/* The record of document 01, "Window program", with so many ends. Its second zone and its quadrilaterals are off. */
 void good_record(uint8_t *record, int ends);
 
 /* Decide, by that record. Quiet: a balanced load flows in at end 1 and out at the others, and nothing trips. Fault: phase a has a fault to
@@ -43,12 +43,42 @@ typedef enum {
 } balanced_fault;
 void lend_balanced(lent *to, int ends, balanced_fault fault, int i2);
 
-/* The second zone: off, as in every record from before it, or on. */
-typedef enum { OFF, ON, ZONES } second_zone;
+/* Decide, by that record with a reach of 800, k = 500, a resistive reach of 10, and limits by which all of these are forward: faults of a
+** phase to ground, with exact edges. Their currents flow in at end 1 and out at end 2, so that no phase operates. Ir is (0, -1000) if
+** nothing else is said. The quadrilateral of the phase operates, or none. */
+typedef enum {
+  BELOW_TOP, /* one count below the reactance line; n is 0 */
+  ON_TOP,    /* none: the line is outside */
+  ON_SIDE,   /* the sides are inside; at a resistive reach of 9 none */
+  ON_OTHER_SIDE,
+  BEYOND_SIDE, /* by one count: none; at 11 it operates */
+  BEYOND_OTHER_SIDE,
+  NO_LOOP_CURRENT,  /* I and q are 0: none, though the reactance number is above 0 */
+  TURNED_ROUND,     /* Ir is (0, 1000) and q above 0: one count above the line is inside */
+  TURNED_ROUND_TOP, /* the same, on the line: none */
+  NO_RESIDUAL,      /* Ir is 0: none */
+  NO_POLARISING,    /* 3V1 is 0, so no circle asserts; it operates */
+  RESISTIVE_FAULTS
+} resistive_fault;
+void lend_resistive(lent *to, int ends, resistive_fault fault, int phase);
+
+/* Decide, by the same record: a fault of all three phases to ground, each with another current, of which the quadrilaterals of this set
+** operate at every resistive reach but 0: A is 1, B 2, C 4. */
+enum { SETS = 8 };
+void lend_quadrilaterals(lent *to, int ends, int set);
+
+/* Decide, by the same record: square waves of full scale on every channel, but a little less in the currents of c, so that there is a 3I2.
+** The roots are as long as they can be, every phase operates, and all three quadrilaterals do at a resistive reach of 4 and more. */
+void lend_full_scale(lent *to, int ends);
+
+/* What document 02 added to the settings, the second zone and the quadrilaterals: both off, as in every record from before them, or both
+** on. */
+typedef enum { OFF, ON, ZONES } added_zones;
 extern const char *const zone_names[ZONES];
 
-/* Turns it on in the record in force, at 1200 thousandths of the replica. */
-void turn_on(lent *window);
+/* Turns one of them on in the record in force: the second zone at 1200 thousandths of the replica, the quadrilaterals at 20 tenths. */
+void turn_on_second_zone(lent *window);
+void turn_on_quadrilaterals(lent *window);
 
 /* Of a window that is lent: the ends by the record in force, the index of the last sample, and how a sample is marked as missing. */
 int ends_of(const lent *window);
@@ -62,9 +92,9 @@ void feed_newest(lent *window);
 int drawn(int low, int high);
 
 /* The nth call of a sequence that is the same in every run, every one accepted: extreme windows by extreme records first, then drawn ones;
-** 2 to 6 ends by turns. Entries and read-back have the nth record. If the second zone is on, its reach is by turns as small as it may be,
-** as large, and halfway; all else is as if it were off. */
-void lend_nth(lent *to, which_call call, long n, second_zone zone);
+** 2 to 6 ends by turns. Entries and read-back have the nth record. If the added zones are on, the reach of each is by turns as small as it
+** may be, as large, and between; all else is as if they were off. */
+void lend_nth(lent *to, which_call call, long n, added_zones zone);
 
 /* Changes one thing in the call that was lent last, so that it is mostly refused: a sample is missing, or a byte of a record is another.
 ** The event calls are in event_calls.h. */

@@ -38,13 +38,24 @@ static void outfeed(uint8_t window[WINDOW]) {
 /* A field of the decision with 32 bits, upper byte first. */
 static int word(const uint8_t *at) { return 16777216 * at[0] + 65536 * at[1] + 256 * at[2] + at[3]; }
 
+/* Why the relay has tripped; more than one reason may hold at a time. */
+static void print_reasons(int phases, int quadrilaterals, int loops, int direction) {
+  if (phases != 0) printf("  because: a phase operates\n");
+  if (quadrilaterals != 0) printf("  because: a fault to ground ahead, in a quadrilateral\n");
+  if (direction == GORSEPETAL_DIRECTION_FORWARD && loops != 0) printf("  because: a fault ahead, in the circle of a loop\n");
+  if (direction == GORSEPETAL_DIRECTION_NONE && phases == 0) printf("  because: a balanced fault, in the circles of AB, BC and CA\n");
+}
+
 static void decide(const char *step, const uint8_t *state, const uint8_t *window) {
   uint8_t out[GORSEPETAL_DECISION_LENGTH];
   uint64_t answer = gorsepetal_decide(state, GORSEPETAL_STATE_LENGTH, window, WINDOW, out, sizeof out);
   report(step, answer);
   if (answer != GORSEPETAL_DONE) return; /* then nothing was written to out, and the relay has no decision */
-  printf("  trip %d, phases %d, loops %d, direction %d\n", out[GORSEPETAL_DECISION_AT_TRIP], out[GORSEPETAL_DECISION_AT_PHASES],
-         out[GORSEPETAL_DECISION_AT_LOOPS], out[GORSEPETAL_DECISION_AT_DIRECTION]);
+  int trip = out[GORSEPETAL_DECISION_AT_TRIP], loops = out[GORSEPETAL_DECISION_AT_LOOPS];
+  int phases = out[GORSEPETAL_DECISION_AT_PHASES] & GORSEPETAL_PHASES, direction = out[GORSEPETAL_DECISION_AT_DIRECTION];
+  int quadrilaterals = out[GORSEPETAL_DECISION_AT_PHASES] & GORSEPETAL_QUADRILATERALS;
+  printf("  trip %d, phases %d, quadrilaterals %d, loops %d, direction %d\n", trip, phases, quadrilaterals, loops, direction);
+  if (trip) print_reasons(phases, quadrilaterals, loops, direction);
   printf("  phase a: differential %d and restraint %d sixty-fourths of a count\n", word(out + GORSEPETAL_DECISION_AT_DIFFERENTIAL_A),
          word(out + GORSEPETAL_DECISION_AT_RESTRAINT_A));
   if (out[GORSEPETAL_DECISION_AT_CHANGE_A] == 0)

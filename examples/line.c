@@ -4,35 +4,14 @@
 ** what to expect and why, and the relay's answer is compared with it: the program ends with 1 if one differs. Run it with:
 ** sh examples/run_line
 **
-** Left out of the model: fault resistance, the line's capacitance, the decaying direct current of a fault, transformer errors.
+** Left out of the model: fault resistance, which examples/resistive.c is about, the line's capacitance, the decaying direct current of a
+** fault, transformer errors.
 */
 #include <stdio.h>
 
-#include "gorsepetal.h"
+#include "network.h"
 
 enum { ENDS = 3, CHANNELS = GORSEPETAL_CHANNELS(ENDS), WINDOW = GORSEPETAL_WINDOW_BYTES(ENDS) };
-
-/* ---- Complex numbers; this program uses no library of mathematics ---- */
-
-typedef struct { double re, im; } Complex;
-
-static Complex plus(Complex p, Complex q) { return (Complex){p.re + q.re, p.im + q.im}; }
-static Complex minus(Complex p, Complex q) { return (Complex){p.re - q.re, p.im - q.im}; }
-static Complex times(Complex p, Complex q) { return (Complex){p.re * q.re - p.im * q.im, p.re * q.im + p.im * q.re}; }
-static Complex scaled(Complex p, double by) { return (Complex){p.re * by, p.im * by}; }
-static double along(Complex p, Complex q) { return p.re * q.re + p.im * q.im; } /* the real part of p times the conjugate of q */
-static Complex over(Complex p, Complex q) { return scaled(times(p, (Complex){q.re, -q.im}), 1 / along(q, q)); }
-static Complex parallel(Complex p, Complex q) { return over(times(p, q), plus(p, q)); }
-
-/* The square root, by Newton. */
-static double root(double x) {
-  double y = x > 1 ? x : 1;
-  for (int i = 0; i < 60; i++) y = (y + x / y) / 2;
-  return y;
-}
-
-static double size(Complex p) { return root(along(p, p)); }
-static int rounded(double x) { return (int)(x < 0 ? x - 0.5 : x + 0.5); }
 
 /* ---- The line, in primary volts, amperes and ohms ---- */
 
@@ -40,7 +19,7 @@ static int rounded(double x) { return (int)(x < 0 ? x - 0.5 : x + 0.5); }
 #define TEE 0.5      /* of it, where the spur to end 3 leaves */
 #define SPUR 0.5     /* the spur, in parts of that length: so ends 2 and 3 are equally far from end 1 */
 
-enum { POSITIVE, NEGATIVE, ZERO }; /* the sequences; the negative one has the impedances of the positive */
+/* By sequence; the negative one has the impedances of the positive. */
 static const Complex PER_KM[] = {{0.12, 0.40}, {0.12, 0.40}, {0.30, 1.20}};
 static const Complex SOURCE[][ENDS] = { /* behind each end's busbar, at its strongest */
   {{0.4, 4.8}, {0.8, 8.0}, {3.0, 36.0}}, {{0.4, 4.8}, {0.8, 8.0}, {3.0, 36.0}}, {{0.5, 4.0}, {1.0, 9.0}, {2.0, 18.0}}};
@@ -99,13 +78,6 @@ static void solve(Network net, Complex v[NODES]) {
   }
 }
 
-static void to_phases(const Complex s[3], Complex phase[3]) {
-  static const Complex A = {-0.5, 0.86602540378443865}, A2 = {-0.5, -0.86602540378443865};
-  phase[0] = plus(s[ZERO], plus(s[POSITIVE], s[NEGATIVE]));
-  phase[1] = plus(s[ZERO], plus(times(A2, s[POSITIVE]), times(A, s[NEGATIVE])));
-  phase[2] = plus(s[ZERO], plus(times(A, s[POSITIVE]), times(A2, s[NEGATIVE])));
-}
-
 /* What there is to measure, effective values: end 1's voltage and each end's current into the line, by sequence and by phase. */
 typedef struct { Complex v_sequence[3], v[3], i_sequence[ENDS][3], i[ENDS][3]; } Line;
 typedef enum { LOAD, A_TO_GROUND, BALANCED } Kind;
@@ -139,7 +111,6 @@ static Line solve_line(Kind kind, double place) {
 
 /* ---- Transformers and converters ---- */
 
-#define ROOT2 1.4142135623730950
 #define VT 1000.0                               /* voltage transformers: 110000 V to 110 V */
 static const double CT[ENDS] = {300, 300, 150}; /* current transformers: so many amperes to 1 A */
 #define CV 300.0 /* counts per secondary volt: 1.2 times the rated voltage has a peak of 107.8 V, 32332 counts of 32767 */
@@ -156,11 +127,6 @@ static int converted(double counts, int lowest) {
 /* One count must be the same primary current at every end. A missing sample stays missing: its mark is not to be scaled. */
 static int to_end_1(int count, int end) { return count == GORSEPETAL_MISSING ? count : rounded(count * CT[end] / CT[0]); }
 
-static void put(uint8_t *bytes, int at, int number) {
-  bytes[at] = (uint8_t)(((unsigned)number >> 8) & 255);
-  bytes[at + 1] = (uint8_t)((unsigned)number & 255);
-}
-
 static int number_at(const uint8_t *bytes, int at) {
   int number = 256 * bytes[at] + bytes[at + 1];
   return number < 32768 ? number : number - 65536;
@@ -175,6 +141,7 @@ static int number_at(const uint8_t *bytes, int at) {
 #define FORWARD_LIMIT -0.6 /* secondary ohms: about half of what a fault ahead measures */
 #define REVERSE_LIMIT 3.0  /* and half of what one behind measures: check_limits has both */
 #define SECOND_REACH 175.0 /* percent of the line; for a lamp, so beyond where any fault on it seems to lie: check_second_reach has that */
+#define RESISTIVE_REACH 2.0 /* secondary ohms, below what sound phases see of a fault beyond the line: check_resistive_reach has that */
 
 static void field(uint8_t *record, int shown, int at, const char *name, double value, const char *unit, double factor) {
   int setting = rounded(value * factor);
@@ -201,6 +168,7 @@ static void fill(uint8_t r[GORSEPETAL_RECORD_LENGTH], double cv_over_ci, int sho
   field(r, shown, GORSEPETAL_AT_REVERSE_LIMIT, "reverse limit zr", REVERSE_LIMIT, "ohm", ohm);
   field(r, shown, GORSEPETAL_AT_NEGATIVE_SEQUENCE_PICKUP, "pickup of 3I2", PICKUP_3I2, "A", ampere);
   field(r, shown, GORSEPETAL_AT_SECOND_REACH, "second reach r2", SECOND_REACH, "percent", 10);
+  field(r, shown, GORSEPETAL_AT_RESISTIVE_REACH, "resistive reach R", RESISTIVE_REACH, "ohm", 10 * cv_over_ci);
 }
 
 /* Both entries, each in a buffer filled anew, and what is then in force; 1 if a call is refused. */
@@ -217,8 +185,9 @@ static int enter(uint8_t *state, double cv_over_ci) {
   double ohm = 1000 * CV / CI;
   Complex z = {number_at(back, GORSEPETAL_AT_REPLICA_REAL) / ohm, number_at(back, GORSEPETAL_AT_REPLICA_IMAGINARY) / ohm};
   double percent = size(z) / size(secondary(line_impedance(POSITIVE))) / 10; /* of the line, for a thousandth of Z */
-  printf("  read back: Z is %.2f + j%.2f ohm to the relay; zone 1 reaches %.0f percent of the line, the second zone %.0f\n\n", z.re, z.im,
-         percent * number_at(back, GORSEPETAL_AT_REACH), percent * number_at(back, GORSEPETAL_AT_SECOND_REACH));
+  printf("  read back: Z is %.2f + j%.2f ohm to the relay; zone 1 reaches %.0f percent of the line, the second zone %.0f, and the\n"
+         "  quadrilaterals %.1f ohm to each side\n\n", z.re, z.im, percent * number_at(back, GORSEPETAL_AT_REACH),
+         percent * number_at(back, GORSEPETAL_AT_SECOND_REACH), number_at(back, GORSEPETAL_AT_RESISTIVE_REACH) / (ohm / 100));
   return proposed != GORSEPETAL_DONE || confirmed != GORSEPETAL_DONE;
 }
 
@@ -257,6 +226,24 @@ static int check_second_reach(void) {
   return SECOND_REACH < 1.2 * farthest;
 }
 
+/* The quadrilaterals of the sound phases leave a solid fault of phase a at the far busbar alone; 1 if not. Their V is a sound voltage, and
+** their I is what k makes of the residual current, with some load. */
+static int check_resistive_reach(void) {
+  Line line = solve_line(A_TO_GROUND, 1.0001);
+  Complex residual = scaled(line.i_sequence[0][ZERO], 3);
+  double nearest = 1e9;
+  for (int phase = 1; phase <= 2; phase++) {
+    Complex z_i = times(line_impedance(POSITIVE), plus(line.i[0][phase], times(line_k(), residual)));
+    double ohms = CT[0] / VT * across(line.v[phase], z_i) / across(residual, z_i);
+    if (ohms < 0) ohms = -ohms;
+    if (ohms < nearest) nearest = ohms;
+  }
+  printf("The resistive reach has to be below what the loops of sound phases see of a fault beyond the line. Of a solid one of phase\n"
+         "a at end 2's busbar they see %.1f ohm or more, and R is below. They may see other faults nearer: the manual says what the\n"
+         "firmware has to ask then.\n\n", nearest);
+  return RESISTIVE_REACH >= nearest;
+}
+
 /* ---- The cases ---- */
 
 typedef struct {
@@ -267,7 +254,7 @@ typedef struct {
   int unscaled;      /* end 3's samples are handed over as its converter gave them */
   int lowest;        /* what the converters clip at; 0 for -32767 */
   int refused_at;    /* the index of the sample for which decide refuses, or 0; then no decision is expected */
-  int trip, phases, loops, direction, second; /* the last one: the loops of the second zone */
+  int trip, phases, quadrilaterals, loops, direction, second; /* the last one: the loops of the second zone */
   const char *why;
 } Case;
 
@@ -285,9 +272,9 @@ enum { AG = GORSEPETAL_LOOP_AG, FORWARD = GORSEPETAL_DIRECTION_FORWARD, REVERSE 
 static const Case CASES[] = {
   {.title = "Load", .kind = LOAD, .place = 0.3,
    .why = "what flows in at end 1 flows out at ends 2 and 3; the load's impedance is far outside both zones"},
-  {.title = "Phase a to ground on the line, 30 percent from end 1", GROUND(0.3), .trip = 1, .phases = A, .loops = AG, .direction = FORWARD,
-   .second = OF_A,
-   .why = "all ends feed the fault; none feeds in between end 1 and the fault, so AG measures its true place"},
+  {.title = "Phase a to ground on the line, 30 percent from end 1", GROUND(0.3), .trip = 1, .phases = A, .quadrilaterals = A, .loops = AG,
+   .direction = FORWARD, .second = OF_A,
+   .why = "all ends feed the fault; none feeds in between end 1 and the fault, so AG measures its true place, circle and quadrilateral"},
   {.title = "Phase a to ground on the line, 80 percent from end 1", GROUND(0.8), .trip = 1, .phases = A, .direction = FORWARD, .second = AG,
    .why = "beyond the tee end 3 feeds in, so AG sees the fault farther than it lies, in the second zone alone; the differential trips"},
   {AT_95, .trip = 1, .phases = A, .direction = FORWARD, .second = AG,
@@ -312,16 +299,16 @@ static const Case CASES[] = {
    .second = AG,
    .why = "end 3 counts double, so its current is left over in the differential; it uses up part of the slope, and does not trip yet"},
   {.title = "Phase a to ground at 1 percent, so heavy that the converter clips: at -32767", GROUND(0.01),
-   .lowest = -GORSEPETAL_LARGEST_SAMPLE, .trip = 1, .phases = A, .loops = OF_A, .direction = FORWARD, .second = OF_A,
-   .why = "clipped samples still show a large current; the loops AB and CA have it too"},
+   .lowest = -GORSEPETAL_LARGEST_SAMPLE, .trip = 1, .phases = A, .quadrilaterals = ABC, .loops = OF_A, .direction = FORWARD, .second = OF_A,
+   .why = "clipped samples still show a large current; the loops AB and CA have it too, and R lies above what sound phases see of so much"},
   {.title = "The same, but the converter clips at -32768", GROUND(0.01), .lowest = GORSEPETAL_MISSING, .refused_at = 135,
    .why = "-32768 means that a sample is missing: no decision, just when the fault is worst. Clip at -32767"},
 };
 
 static const Case WRONG_UNIT[] = {
-  {AT_95, .trip = 1, .phases = A, .loops = AG, .direction = FORWARD, .second = OF_A,
-   .why = "both reaches are twice what was meant: AG asserts for a fault that zone 1 should leave alone"},
-  {BEYOND, .trip = 1, .loops = AG, .direction = FORWARD, .second = OF_A,
+  {AT_95, .trip = 1, .phases = A, .quadrilaterals = A, .loops = AG, .direction = FORWARD, .second = OF_A,
+   .why = "all three reaches are twice what was meant: AG asserts for a fault that zone 1 should leave alone"},
+  {BEYOND, .trip = 1, .quadrilaterals = A, .loops = AG, .direction = FORWARD, .second = OF_A,
    .why = "and here the relay trips the line for a fault that is not on it"},
   {BALANCED_BEYOND, .trip = 1, .loops = ALL_LOOPS, .second = ALL_LOOPS,
    .why = "so it does here: no phase operates and there is no direction, but AB, BC and CA all assert in a zone 1 that is too long"},
@@ -368,11 +355,12 @@ static void print_bits(const char *what, int bits, const char *const names[]) {
   if (bits) printf(")");
 }
 
-static void print_decision(int trip, int phases, int loops, int direction, int second) {
+static void print_decision(int trip, int phases, int quadrilaterals, int loops, int direction, int second) {
   static const char *const PHASES[8] = {"A", "B", "C"}, *const LOOPS[8] = {"AG", "BG", "CG", "AB", "BC", "CA"};
   static const char *const DIRECTIONS[] = {"none", "forward", "reverse", "?"};
   printf("trip %d", trip);
   print_bits("phases", phases, PHASES);
+  print_bits("quadrilaterals", quadrilaterals, PHASES);
   print_bits("loops", loops, LOOPS);
   printf(", direction %d (%s)", direction, DIRECTIONS[direction < 3 ? direction : 3]);
   print_bits("second zone", second, LOOPS);
@@ -393,14 +381,15 @@ static double differential(const Case *c, const Line *line) {
 
 /* The decision; 1 if its first five bytes are not as expected, or its differential is not the model's, give or take 2 A. */
 static int compare(const Case *c, const uint8_t *out, double model, int clipped) {
-  int trip = out[GORSEPETAL_DECISION_AT_TRIP], phases = out[GORSEPETAL_DECISION_AT_PHASES];
+  int trip = out[GORSEPETAL_DECISION_AT_TRIP], phases = out[GORSEPETAL_DECISION_AT_PHASES] & GORSEPETAL_PHASES;
+  int quadrilaterals = (out[GORSEPETAL_DECISION_AT_PHASES] & GORSEPETAL_QUADRILATERALS) / GORSEPETAL_QUADRILATERAL_A;
   int loops = out[GORSEPETAL_DECISION_AT_LOOPS], direction = out[GORSEPETAL_DECISION_AT_DIRECTION];
   int second = out[GORSEPETAL_DECISION_AT_SECOND_ZONE];
   double s = primary(out + GORSEPETAL_DECISION_AT_DIFFERENTIAL_A), u = primary(out + GORSEPETAL_DECISION_AT_RESTRAINT_A);
-  print_decision(trip, phases, loops, direction, second);
+  print_decision(trip, phases, quadrilaterals, loops, direction, second);
   printf("\n  phase a:  differential %.0f A primary (model %.0f), restraint %.0f A: %.0f percent", s, model, u, 100 * s / u);
-  return c->refused_at || trip != c->trip || phases != c->phases || loops != c->loops || direction != c->direction || second != c->second ||
-         (!clipped && (s - model > 2 || model - s > 2));
+  return c->refused_at || trip != c->trip || phases != c->phases || quadrilaterals != c->quadrilaterals || loops != c->loops ||
+         direction != c->direction || second != c->second || (!clipped && (s - model > 2 || model - s > 2));
 }
 
 /* One case; 1 if the relay answers otherwise than expected. */
@@ -416,7 +405,7 @@ static int run(const uint8_t *state, const Case *c) {
   if (c->refused_at)
     printf("refusal %d at %d", GORSEPETAL_MISSING_SAMPLE, c->refused_at);
   else
-    print_decision(c->trip, c->phases, c->loops, c->direction, c->second);
+    print_decision(c->trip, c->phases, c->quadrilaterals, c->loops, c->direction, c->second);
   printf("\n  because:  %s\n  relay:    ", c->why);
   if (answer == GORSEPETAL_DONE)
     fault = compare(c, out, differential(c, &line), clipped);
@@ -438,7 +427,7 @@ int main(void) {
          "Current transformers: 300 to 1 A at ends 1 and 2, 150 to 1 A at end 3. A count is %.2f A primary at end 1 and %.2f A at\n"
          "end 3, so the firmware multiplies end 3's samples by 150/300.\n\n", CT[0] / CI, CT[2] / CI);
   printf("The record, from secondary values. cv is %.0f counts per volt, ci %.0f counts per ampere.\n", CV, CI);
-  faults += enter(state, CV / CI) + check_limits() + check_second_reach();
+  faults += enter(state, CV / CI) + check_limits() + check_second_reach() + check_resistive_reach();
   for (int i = 0; i < cases; i++) faults += run(state, &CASES[i]);
   printf("The wrong unit. The desk entered thousandths of an ohm and forgot that cv over ci is %.1f, in both entries alike.\n"
          "Both are good records, so no call can see it.\n", CV / CI);

@@ -9,6 +9,7 @@
 A channel that is not given is 0. Sample n of a phasor of size p and angle t is p cos(2 pi n/16 + t), rounded to the nearest.
 A line before the windows that begins with 'confirmation' gives a setting that the second entry has otherwise, as in
 'confirmation slope 50 percent, five zero'. What the second zone sees is not in the line that the window program prints.
+In its diff 1, 2 and 4 are the phases that operate, and 8, 16 and 32 the quadrilaterals of A, B and C.
 """
 import cmath
 import math

@@ -1,12 +1,12 @@
-"""The settings record of document 01 with the second reach of document 02: its table, its 32 bytes as numbers and back, and what is
-wrong with a record.
+"""The settings record of document 01 with the second reach and the resistive reach of document 02: its table, its 32 bytes as
+numbers and back, and what is wrong with a record.
 
 tests/desk/check.py holds the table to the independent model's, offset by offset.
 """
 from typing import NamedTuple, Optional
 
 LENGTH = 32
-SPARE = range(28, 32)
+SPARE = range(30, 32)
 SQUARES = range(998000, 1002000 + 1)
 
 
@@ -27,6 +27,7 @@ class Setting(NamedTuple):
 
 
 IMPEDANCE = 'thousandths of a voltage count per current count'
+RESISTANCE = 'tenths of a voltage count per current count'
 SETTINGS = (
     Setting('ends', '', '', (Part(0, 2, 6),)),
     Setting('slope', 'percent', '', (Part(2, 1, 100),)),
@@ -39,6 +40,7 @@ SETTINGS = (
     Setting('reverse limit', IMPEDANCE, 'ohm', (Part(22, -20000, 20000),)),
     Setting('pickup of 3I2', 'counts', 'A', (Part(24, 1, 42000),)),
     Setting('second reach', 'thousandths of the replica', 'percent of the replica', (Part(26, 0, 2000),), may_be_off=True),
+    Setting('resistive reach', RESISTANCE, 'ohm', (Part(28, 0, 1000),), may_be_off=True),
 )
 
 Numbers = dict[str, tuple[int, ...]]  # by the setting's name

@@ -9,7 +9,8 @@ read() take that text, and also numbers from the secondary side, which need the 
     line zero sequence 2.4 + j 12.0 ohm  gives k
     differential pickup 0.2 A            effective value, secondary
 
-The second reach is a number or the word 'off'. A text from before it was there has no line for it: then it is off.
+The second reach and the resistive reach are each a number or the word 'off'. A text from before one of them was there has no line
+for it: then it is off.
 '#' begins a remark. The digits may be left out; if they are there, they must be those of the number.
 """
 import cmath
@@ -17,7 +18,7 @@ import math
 import re
 from typing import Callable, NamedTuple, Optional
 
-from record import SETTINGS, Numbers, Setting, first_wrong
+from record import IMPEDANCE, RESISTANCE, SETTINGS, Numbers, Setting, first_wrong
 
 # ---- Digits as they are said -----------------------------------------------
 
@@ -119,13 +120,15 @@ def only(given: Quantity, name: str, parts: int, *units: str) -> None:
 # ---- From the secondary side to counts -------------------------------------
 
 COUNTS = ('counts per volt', 'counts per ampere')
-# What one of a unit is in the record's units; v and a are the counts per volt and per ampere.
+# What one of a unit is in the record's units; v and a are the counts per volt and per ampere. An ohm is so many voltage counts per
+# current count, of which the record has thousandths or tenths.
 FACTORS: dict[str, tuple[str, Callable[[float, float], float]]] = {
     'V': ('v', lambda v, a: math.sqrt(2) * v),
     'A': ('a', lambda v, a: math.sqrt(2) * a),
-    'ohm': ('va', lambda v, a: 1000 * v / a),
+    'ohm': ('va', lambda v, a: v / a),
     'percent of the replica': ('', lambda v, a: 10),
 }
+IN_ONE = {('ohm', IMPEDANCE): 1000, ('ohm', RESISTANCE): 10}
 
 
 class Scale(NamedTuple):
@@ -133,13 +136,13 @@ class Scale(NamedTuple):
     volt: Optional[float]
     ampere: Optional[float]
 
-    def factor(self, given: Quantity) -> float:
-        """1 for the record's own units and for counts."""
+    def factor(self, given: Quantity, unit: str = 'counts') -> float:
+        """What one of a quantity's unit is in the unit named: 1 for the record's own units and for counts."""
         needs, rule = FACTORS.get(given.unit, ('', lambda v, a: 1))
         for letter, counts, name in zip('va', self, COUNTS):
             if letter in needs and counts is None:
                 raise Fault(given.line, f"'{given.text}' needs '{name}', which is not given")
-        return rule(self.volt, self.ampere)
+        return IN_ONE.get((given.unit, unit), 1) * rule(self.volt, self.ampere)
 
 
 def nearest(value: float) -> int:
@@ -191,7 +194,7 @@ def direct(setting: Setting, given: Quantity, counts: Scale) -> complex:
     only(given, setting.name, 1 if given.unit == 'degrees' else len(setting.parts), *units)
     if given.unit == 'degrees':
         return cmath.rect(1000, math.radians(given.value.real))
-    value = given.value * counts.factor(given)
+    value = given.value * counts.factor(given, setting.unit)
     if setting.may_be_off and nearest(value.real) == 0:
         raise Fault(given.line, f"'{given.text}': {setting.name} 0 is off, wanted '{OFF}' if it is meant")
     return value
@@ -209,7 +212,7 @@ def of_line(given: dict[str, Quantity], counts: Scale) -> dict[str, complex]:
             raise Fault(given['line zero sequence'].line, "'line zero sequence' needs 'line', which is not given")
         return {}
     one = given['line'].value
-    found = {'replica': one * counts.factor(given['line']), 'line angle': 1000 * one / abs(one)}
+    found = {'replica': one * counts.factor(given['line'], IMPEDANCE), 'line angle': 1000 * one / abs(one)}
     if 'line zero sequence' in given:
         found['k'] = 1000 * (given['line zero sequence'].value - one) / (3 * one)
     return found

@@ -149,12 +149,12 @@ static void names_of_a_decision(void) {
         check("direction", decided[GORSEPETAL_DECISION_AT_DIRECTION], ahead ? GORSEPETAL_DIRECTION_FORWARD : GORSEPETAL_DIRECTION_REVERSE);
         check("loop", (decided[GORSEPETAL_DECISION_AT_LOOPS] & loops[to_ground][x]) != 0, (uint64_t)ahead);
         check("trip", decided[GORSEPETAL_DECISION_AT_TRIP], (uint64_t)ahead);
-        check("phases", decided[GORSEPETAL_DECISION_AT_PHASES], 0);
+        check("phases", decided[GORSEPETAL_DECISION_AT_PHASES] & GORSEPETAL_PHASES, 0);
       }
     memset(window, 0, WINDOW);
     phasor(window, 3 + x, 1000, 0); /* at end 1 alone: 64000 sixty-fourths in U and in the differential, which operates up to slope 99 */
     check("decide", decide(window, WINDOW, DECISION), GORSEPETAL_DONE);
-    check("phase", decided[GORSEPETAL_DECISION_AT_PHASES], (uint64_t)operating[x]);
+    check("phase", decided[GORSEPETAL_DECISION_AT_PHASES] & GORSEPETAL_PHASES, (uint64_t)operating[x]);
     check("slope of change", decided[change[x]], 99);
     check("restraint", 256u * decided[restraint[x] + 2] + decided[restraint[x] + 3], 64000);
     check("differential", 256u * decided[differential[x] + 2] + decided[differential[x] + 3], 64000);

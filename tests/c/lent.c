@@ -268,6 +268,37 @@ uint64_t events_write(uint64_t ends, uint64_t written, uint32_t time, const uint
   return answer;
 }
 
+/* What several cases ask of the calls */
+
+void proposed(const char *what, const uint8_t *record, int fault) {
+  int taken = fault < 0;
+  lend_state(other, good);
+  check(what, propose(record, RECORD), taken ? GORSEPETAL_DONE : refused(GORSEPETAL_OUT_OF_RANGE, (uint64_t)fault));
+  state_is(other, taken ? record : zeros, some_window);
+}
+
+void confirmed_otherwise(const uint8_t *pending, const uint8_t *entered, int at) {
+  lend_state(other, pending);
+  check("confirm", confirm(entered, RECORD), refused(GORSEPETAL_DIFFERS, (uint64_t)at));
+  state_is(other, zeros, some_window);
+  check("third entry", confirm(pending, RECORD), GORSEPETAL_NOTHING_PENDING);
+  state_is(other, zeros, some_window);
+}
+
+void counts_as_absent(const uint8_t *record) {
+  lend_state(record, good);
+  check("read back", read_back(RECORD), GORSEPETAL_NO_SETTINGS);
+  out_untouched();
+  check("decide", decide(zeros, WINDOW, DECISION), GORSEPETAL_NO_SETTINGS);
+  out_untouched();
+  check("feed", feed(zeros, FRAME, DECISION), GORSEPETAL_NO_SETTINGS);
+  out_untouched();
+  state_is(record, good, some_window);
+  lend_state(good, record);
+  check("confirm", confirm(record, RECORD), GORSEPETAL_NOTHING_PENDING);
+  state_is(good, zeros, some_window);
+}
+
 static const uint8_t *decided(const uint8_t *record, const uint8_t *window) {
   lend_state(record, zeros);
   check("decide", decide(window, (size_t)GORSEPETAL_WINDOW_BYTES(record[1]), DECISION), GORSEPETAL_DONE);

@@ -13,6 +13,7 @@ enum {
   CHANNELS = GORSEPETAL_CHANNELS(2), /* of the good record; so are the next two */
   FRAME = GORSEPETAL_FRAME_BYTES(2),
   WINDOW = GORSEPETAL_WINDOW_BYTES(2),
+  PHASES = 3,
   FEWEST_ENDS = 2,
   MOST_ENDS = 6,
   LONGEST = GORSEPETAL_WINDOW_BYTES(MOST_ENDS), /* of any record; so is the next */
@@ -48,7 +49,7 @@ struct test_case {
   void (*run)(void);
 };
 extern const struct test_case entry_cases[], decide_cases[], feed_cases[], second_zone_cases[], root_cases[], balanced_cases[],
-    events_cases[], ended_cases[], written_cases[], change_cases[];
+    events_cases[], ended_cases[], written_cases[], change_cases[], resistive_reach_cases[], quadrilateral_cases[];
 
 /* Runs the cases of a table; gives back how many. */
 int run_cases(const struct test_case *cases);
@@ -101,6 +102,15 @@ uint64_t events_wanted(void);
 uint64_t events_read(const uint8_t *bytes, size_t length, size_t room);
 uint64_t events_end(void);
 uint64_t events_write(uint64_t ends, uint64_t written, uint32_t time, const uint8_t *frame, size_t length, size_t room);
+
+/* Proposes a record that has to be refused 6 at this offset, or taken if it is -1. */
+void proposed(const char *what, const uint8_t *record, int fault);
+
+/* Confirms a pending record with one that differs first at this offset. That is refused, and a third entry finds nothing pending. */
+void confirmed_otherwise(const uint8_t *pending, const uint8_t *entered, int at);
+
+/* A stored record that propose would refuse counts as absent: in force no call goes by it, and pending it cannot be confirmed. */
+void counts_as_absent(const uint8_t *record);
 
 /* The decision on a window by a record in force, which has to be made; it stays until the next call. By decide; and by feed of the last
 ** frame, the fifteen before it being kept. */

@@ -3,7 +3,7 @@
 #define TESTS_LINES_H
 #include "lent.h"
 
-enum { CHANGE = GORSEPETAL_DECISION_AT_CHANGE_A, PHASES = 3, LARGEST_SLOPE = 100, LARGEST_PICKUP = 42000 };
+enum { CHANGE = GORSEPETAL_DECISION_AT_CHANGE_A, LARGEST_SLOPE = 100, LARGEST_PICKUP = 42000 };
 
 /* A current into the line, in counts; and a line by the currents of each end and phase. It has no voltage, so no loop asserts and there is
 ** no direction: a phase that operates trips, and nothing else does. */

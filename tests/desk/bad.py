@@ -2,8 +2,9 @@
 from typing import Iterator, NamedTuple
 
 IMPEDANCE = 'thousandths of a voltage count per current count'
+RESISTANCE = 'tenths of a voltage count per current count'
 OF_REPLICA = 'thousandths of the replica'
-# A text from before the second reach: it has no line for it.
+# A text from before the second reach and the resistive reach: it has no line for them.
 SETTINGS = f'''ends 2
 slope 15 percent, one five
 differential pickup 100 counts, one zero zero
@@ -19,9 +20,9 @@ COUNTS = 'counts per volt 100\ncounts per ampere 200\n'
 NUMBER = 'wanted digits, nine at most before the point and after it'
 NEEDED = ('ends', 'slope', 'differential pickup', 'replica', 'reach', 'k', 'line angle', 'forward limit', 'reverse limit',
           'pickup of 3I2')
-IN_ORDER = (*NEEDED, 'second reach')
+IN_ORDER = (*NEEDED, 'second reach', 'resistive reach')
 NAMES = ('counts per ampere, counts per volt, differential pickup, ends, forward limit, k, line, line angle, line zero sequence, '
-         'pickup of 3I2, reach, replica, reverse limit, second reach, slope')
+         'pickup of 3I2, reach, replica, resistive reach, reverse limit, second reach, slope')
 
 
 class Bad(NamedTuple):
@@ -138,6 +139,41 @@ def second_reaches() -> Iterator[Bad]:
               f"line 11: '849 {OF_REPLICA}': reach 850, second reach 849, wanted off or the second not below the first")
 
 
+# Each is line 11, after SETTINGS.
+RESISTIVE_REACHES = {
+    f'resistive reach 1001 {RESISTANCE}': f"'1001 {RESISTANCE}': resistive reach 1001, wanted off or 1 to 1000",
+    f'resistive reach 65535 {RESISTANCE}': f"'65535 {RESISTANCE}': resistive reach 65535, wanted off or 1 to 1000",
+    f'resistive reach -1 {RESISTANCE}': f"'-1 {RESISTANCE}': resistive reach -1, wanted off or 1 to 1000",
+    f'resistive reach 0 {RESISTANCE}': f"'0 {RESISTANCE}': resistive reach 0 is off, wanted 'off' if it is meant",
+    f'resistive reach 0.4 {RESISTANCE}': f"'0.4 {RESISTANCE}': resistive reach 0 is off, wanted 'off' if it is meant",
+    'resistive reach off, zero': "off is 'off', not 'zero'",
+    f'resistive reach 20 {RESISTANCE}, two': "20 is 'two zero', not 'two'",
+    f'resistive reach off {RESISTANCE}': f"'off' after 'resistive reach' is no number, {NUMBER}",
+    'resistive reach': f"'resistive reach' has no number, {NUMBER}",
+    'resistive reach 20': f"resistive reach 20 has no unit, wanted '{RESISTANCE}' or 'ohm'",
+    f'resistive reach 20 {IMPEDANCE}': f"'{IMPEDANCE}' is no unit of resistive reach, wanted '{RESISTANCE}' or 'ohm'",
+    'resistive reach 20 tenths': f"'tenths' is no unit of resistive reach, wanted '{RESISTANCE}' or 'ohm'",
+    f'resistive reach 20 + j 3 {RESISTANCE}': f"'20 + j 3 {RESISTANCE}': resistive reach is one number",
+    'resistive reach 4 ohm': "'4 ohm' needs 'counts per volt', which is not given",
+}
+
+
+def resistive_reaches() -> Iterator[Bad]:
+    """What can be wrong with the resistive reach, and that another fault of a smaller offset comes before it."""
+    for line, error in RESISTIVE_REACHES.items():
+        yield Bad('record', f'{SETTINGS}{line}\n', f'line 11: {error}')
+    yield Bad('record', f'{SETTINGS}{COUNTS}resistive reach 200.2 ohm\n',
+              "line 13: '200.2 ohm': resistive reach 1001, wanted off or 1 to 1000")
+    yield Bad('record', f'{SETTINGS}{COUNTS}resistive reach 0.09 ohm\n',
+              "line 13: '0.09 ohm': resistive reach 0 is off, wanted 'off' if it is meant")
+    yield Bad('record', f'{SETTINGS}resistive reach off\nresistive reach off\n',
+              "line 12: 'resistive reach' again, it stands on line 11")
+    yield Bad('record', f'{SETTINGS}resistive reach 1001 {RESISTANCE}\nsecond reach 2001 {OF_REPLICA}\n',
+              f"line 12: '2001 {OF_REPLICA}': second reach 2001, wanted off or 1 to 2000")
+    yield Bad('make', f'{SETTINGS}confirmation resistive reach 1001 {RESISTANCE}\n',
+              f"line 11: '1001 {RESISTANCE}': resistive reach 1001, wanted off or 1 to 1000")
+
+
 def secondary() -> Iterator[Bad]:
     """What can be wrong with the counts and the line's impedances."""
     line, zero = 'line 0.8 + j 4.0 ohm\n', 'line zero sequence 2.0 + j 13.0 ohm\n'
@@ -198,5 +234,6 @@ def texts() -> Iterator[Bad]:
     yield from in_place()
     yield from whole_texts()
     yield from second_reaches()
+    yield from resistive_reaches()
     yield from secondary()
     yield from windows()

@@ -3,7 +3,7 @@ import cmath
 import math
 import random
 
-from bad import COUNTS, OF_REPLICA, SETTINGS
+from bad import COUNTS, OF_REPLICA, RESISTANCE, SETTINGS
 from cases import building, records
 from held import hold, ran
 from model import measuring
@@ -54,13 +54,16 @@ def window_holds(numbers: list[int], ends: int, phasors: dict[int, complex], mis
 
 
 def a_confirmation(rng: random.Random, data: bytes) -> tuple[str, bytes]:
-    """The second entry: mostly the first again, else with a slope or a second reach of its own. Its line, and its record."""
+    """The second entry: mostly the first again, else with a slope, a second reach or a resistive reach of its own. Its line, and its
+    record."""
     kind, slope = rng.random(), rng.randint(1, 100)
-    reach = building.any_second(rng, int.from_bytes(data[10:12], 'big'))
+    second, resistive = building.any_second(rng, int.from_bytes(data[10:12], 'big')), building.any_resistive(rng)
     if kind < 0.15:
         return f'confirmation slope {slope} percent\n', records.put(data, 2, slope)
     if kind < 0.3:
-        return f'confirmation second reach {f"{reach} {OF_REPLICA}" if reach else "off"}\n', records.put(data, 26, reach)
+        return f'confirmation second reach {f"{second} {OF_REPLICA}" if second else "off"}\n', records.put(data, 26, second)
+    if kind < 0.45:
+        return f'confirmation resistive reach {f"{resistive} {RESISTANCE}" if resistive else "off"}\n', records.put(data, 28, resistive)
     return '', data
 
 

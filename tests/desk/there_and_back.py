@@ -2,7 +2,7 @@
 import random
 from itertools import chain, islice
 
-from bad import COUNTS, IMPEDANCE, IN_ORDER, OF_REPLICA, SETTINGS
+from bad import COUNTS, IMPEDANCE, IN_ORDER, OF_REPLICA, RESISTANCE, SETTINGS
 from cases import records, second_reach
 from held import Ran, hold, ran
 from model import settings
@@ -11,18 +11,18 @@ from model import settings
 
 TEN = 'zero one two three four five six seven eight nine'.split()
 DIGITS = {**{word: str(digit) for digit, word in enumerate(TEN)}, 'minus': '-', 'plus': '', 'j': ' '}
-OFF = 'second reach off'
+OFF = {'second reach off': 26, 'resistive reach off': 28}    # the lines that say so, and where the number is
 
 
 def heard(text: str) -> bytes:
     """The record that a listener writes down from the digits alone: what follows the comma of each line. Off is 0."""
     numbers = []
-    for line, name in zip(text.replace(OFF, f'{OFF}, zero').splitlines(), IN_ORDER, strict=True):
-        said, _, digits = line.partition(', ')
+    for line, name in zip(text.splitlines(), IN_ORDER, strict=True):
+        said, _, digits = line.partition(', ') if line not in OFF else (line, '', 'zero')
         hold(said.startswith(f'{name} '), f"'{line}' does not begin with '{name}'")
         written = ''.join(DIGITS[word] for word in digits.replace('minus j', 'j minus').split())
         numbers += [int(part) for part in written.split()]
-    return b''.join((number % 65536).to_bytes(2, 'big') for number in numbers) + bytes(4)
+    return b''.join((number % 65536).to_bytes(2, 'big') for number in numbers) + bytes(2)
 
 
 def good_record(data: bytes) -> None:
@@ -37,8 +37,10 @@ def good_record(data: bytes) -> None:
     hold(written.decode() == data.hex(' ', 2).upper() + '\n', f'{shown}as hex it is {written}')
     hold(ran('read', '-', given=written) == text, f'{shown}another text from its hex')
     hold(ran('read', '-', given=data) == text, f'{shown}another text from its bytes')
-    before = text.out.decode().removesuffix(f'{OFF}\n')
-    hold((before == text.out.decode()) == any(data[26:28]), f'{shown}its second reach is read as {text.out.decode()}')
+    lines = text.out.decode().splitlines()
+    for line, at in OFF.items():
+        hold((line in lines) == (not any(data[at:at + 2])), f'{shown}read as {text.out.decode()}')
+    before = ''.join(f'{line}\n' for line in lines if line not in OFF)
     hold(ran('record', '-', '--binary', given=before.encode()) == back, f'{shown}another record without a line for what is off')
 
 
@@ -51,7 +53,7 @@ def another(rng: random.Random, kinds: list[str], among: list[str], start: int) 
 def misheard(rng: random.Random, data: bytes) -> None:
     """One digit of a text said otherwise, or written otherwise: the two no longer fit, and nothing comes out."""
     lines = ran('read', data.hex()).out.decode().splitlines()
-    at = rng.choice([at for at, line in enumerate(lines) if line != OFF])
+    at = rng.choice([at for at, line in enumerate(lines) if line not in OFF])
     written, _, said = lines[at].partition(', ')
     if rng.random() < 0.5:
         said = ' '.join(another(rng, TEN, said.split(), 0))
@@ -104,10 +106,14 @@ REFUSED = {
         '6 at 26: reach 850, second reach 849, wanted off or the second not below the first',
     '0002 000F 0064 0000 03E8 0352 029B 0000 0000 03E8 FED4 012C 0032 07D1 0000 0000':
         '6 at 26: second reach 2001, wanted off or 1 to 2000',
-    '0002 000F 0064 0000 03E8 0352 029B 0000 0000 03E8 FED4 012C 0032 0001 0007 0000':
+    '0002 000F 0064 0000 03E8 0352 029B 0000 0000 03E8 FED4 012C 0032 0001 03E9 0000':
         '6 at 26: reach 850, second reach 1, wanted off or the second not below the first',
-    '0002 000F 0064 0000 03E8 0352 029B 0000 0000 03E8 FED4 012C 0032 0000 0007 0000': '6 at 29: spare byte 7, wanted 0',
-    '0002 000F 0064 0000 03E8 0352 029B 0000 0000 03E8 FED4 012C 0032 04B0 0007 0000': '6 at 29: spare byte 7, wanted 0',
+    '0002 000F 0064 0000 03E8 0352 029B 0000 0000 03E8 FED4 012C 0032 0000 03E9 0000':
+        '6 at 28: resistive reach 1001, wanted off or 1 to 1000',
+    '0002 000F 0064 0000 03E8 0352 029B 0000 0000 03E8 FED4 012C 0032 04B0 FFFF 0007':
+        '6 at 28: resistive reach 65535, wanted off or 1 to 1000',
+    '0002 000F 0064 0000 03E8 0352 029B 0000 0000 03E8 FED4 012C 0032 0000 0000 0007': '6 at 31: spare byte 7, wanted 0',
+    '0002 000F 0064 0000 03E8 0352 029B 0000 0000 03E8 FED4 012C 0032 04B0 03E8 0100': '6 at 30: spare byte 1, wanted 0',
     '0002 000F': '5 at 0: 4 bytes, wanted 32',
     300 * '00': '5 at 0: 300 bytes, wanted 32',
 }
@@ -125,6 +131,10 @@ BY_HAND = {
     'second reach 120 percent of the replica': f'second reach 1200 {OF_REPLICA}, one two zero zero',
     'second reach 85 percent of the replica, eight five': f'second reach 850 {OF_REPLICA}',     # equal to the reach
     'second reach off': 'second reach off, off',
+    'resistive reach 4 ohm, four': f'resistive reach 20 {RESISTANCE}, two zero',    # 10 times 4 times 100 over 200
+    'resistive reach 200 ohm': f'resistive reach 1000 {RESISTANCE}, one zero zero zero',
+    'resistive reach 0.3 ohm': f'resistive reach 2 {RESISTANCE}, two',              # 1.5, away from zero
+    'resistive reach off': 'resistive reach off, off',
     'line angle 60 degrees': 'line angle 500 + j 866 thousandths',
     'forward limit -0.611 ohm': f'forward limit -306 {IMPEDANCE}',                  # -305.5, away from zero
     'reverse limit 0.611 ohm': f'reverse limit 306 {IMPEDANCE}',
