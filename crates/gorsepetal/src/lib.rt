@@ -41,7 +41,7 @@ fn propose_answer(r: &[u8]) -> Answer
     if r.len() != RECORD_LENGTH {
         return Answer::OtherEntryLength;
     }
-    match settings::check(r) {
+    match checking::check(r) {
         Checked::Good => Answer::Done,
         Checked::Bad(at) => Answer::OutOfRange(at),
     }
