@@ -10,8 +10,8 @@ use lib.IntN.{ℤ}
 use lib.ListN.{drop, getD, List·getD-append}
 use Rattle.settings.specs.Record.{fieldAt}
 use Rattle.settings.specs.declared.Checked.the-variants.{Bad}
-use Rattle.settings.specs.Table.{Rule, Byte, offsetOf, settingsTable}
-use Rattle.settings.specs.Check.{holds, checkedBy, checked}
+use Rattle.settings.specs.Table.{Rule, Byte, offsetOf}
+use Rattle.settings.specs.Check.{holds, checkedBy}
 use Rattle.settings.specs.Fields.{AllKept}
 use Rattle.settings.proofs.Good.{all-kept}
 use Rattle.differential.specs.Differential.{operatingBits}
@@ -87,20 +87,20 @@ kept-from [] rs s a = a
 kept-from (r ∷ front) rs s a = kept-from front rs s (a .1)
 
 -- a row that allows 0, and two spare bytes in its place
-module _ (row : Rule) (front rest : List Rule) (table : settingsTable ≡ front ++ row ∷ rest) (zero-kept : (s : List ℕ) → fieldAt s (offsetOf row) ≡ 0 → holds s row ≡ true) where
+module _ (row : Rule) (front rest : List Rule) (zero-kept : (s : List ℕ) → fieldAt s (offsetOf row) ≡ 0 → holds s row ≡ true) where
   abbrev at : ℕ
   at = offsetOf row
 
   abbrev before : List Rule
   before = front ++ Byte at 0 0 ∷ Byte (at + 1) 0 0 ∷ rest
 
-  found-alike : (s : List ℕ) → getD s at 0 ≡ 0 → getD s (at + 1) 0 ≡ 0 → checked s ≡ checkedBy before s
+  found-alike : (s : List ℕ) → getD s at 0 ≡ 0 → getD s (at + 1) 0 ≡ 0 → checkedBy (front ++ row ∷ rest) s ≡ checkedBy before s
   unfolding checkedBy
   found-alike s high low =
       let two : checkedBy (row ∷ rest) s ≡ checkedBy (Byte at 0 0 ∷ Byte (at + 1) 0 0 ∷ rest) s = rw (zero-kept s (rw (high, low)), high, low) in
-      ap (λ t. checkedBy t s) table ∙ behind front (row ∷ rest) (Byte at 0 0 ∷ Byte (at + 1) 0 0 ∷ rest) s two
+      behind front (row ∷ rest) (Byte at 0 0 ∷ Byte (at + 1) 0 0 ∷ rest) s two
 
-  pub from-before : FromBefore row before
+  pub from-before : FromBefore row (front ++ row ∷ rest) before
   from-before =
       record {
         found-alike = found-alike;

@@ -9,6 +9,7 @@ use native.Mathlib.Omega.{arith}
 use borrow.Author.Tests.{ne-eqb}
 use lib.Dec.{eqb}
 use lib.IntN.{ℤ, pos}
+use Rattle.whole.specs.Exactly.{Exactly}
 use Rattle.whole.specs.Bits.{bits}
 use Rattle.settings.specs.Table.{secondReachRow, resistiveReachRow, differentialRows, distanceRows, angleRows, directionRows, spareRows, settingsTable}
 use Rattle.settings.specs.Fields.{reach, resistiveReach}
@@ -17,7 +18,7 @@ use Rattle.distance.specs.declared.mho.Loop.{Loop}
 use Rattle.distance.specs.Constants.{replica}
 use Rattle.distance.specs.Mho.{residual}
 use Rattle.quadrilateral.specs.Quadrilateral.{quadrilateralsOf}
-use Rattle.quadrilateral.proofs.Laws.{quadrilateral-rule, no-residual, larger-resistive-reach}
+use Rattle.quadrilateral.proofs.Laws.{quadrilateral-rule, no-residual, larger-resistive-reach, fault-equation}
 use Rattle.differential.specs.Differential.{operatingBits}
 use Rattle.findings.specs.declared.Findings.{Findings}
 use Rattle.findings.specs.DecisionRecord.{any, balancedFault, decisionBytes}
@@ -25,11 +26,11 @@ use Rattle.decision.specs.Decision.{currentsOfEnd1, findings}
 use Rattle.decision_claims.specs.Bits.{isSet, AnyOf}
 use Rattle.decision_claims.specs.Alike.{SameBut, recordWith}
 use Rattle.claims.specs.Decisions.{Decision}
-use Rattle.decision_claims.specs.Demand2.{phaseFacts, sixLoops, quadrilateralFacts, TripsForward, TripsBalanced, byte}
-use Rattle.decision_claims.specs.Quadrilaterals.{QuadrilateralHasReason, LargerRKeeps, AtAnotherR, bytesBefore, QuadrilateralsOff, RecordsBeforeR}
+use Rattle.decision_claims.specs.Demand2.{phaseFacts, sixLoops, SeesResistive, quadrilateralFacts, TripsForward, TripsBalanced, byte}
+use Rattle.decision_claims.specs.Quadrilaterals.{groundLoopOf, FaultTold, QuadrilateralHasReason, LargerRKeeps, AtAnotherR, bytesBefore, QuadrilateralsOff, RecordsBeforeR}
 use Rattle.decision_claims.proofs.Bits.{Leads, bits-lead, from-bit-3}
 use Rattle.decision_claims.proofs.Alike.{same-field, byte-is, withPhases, same-from-2, low-bits, high-bits, from-before}
-use Rattle.decision_claims.proofs.Demand2.{on, watch, seen, phase-list, phase-byte-is, any-quadrilateral, which-quadrilateral, quadrilateral-bit, demand-2}
+use Rattle.decision_claims.proofs.Demand2.{for-three, on, watch, seen, phase-list, phase-byte-is, any-quadrilateral, which-quadrilateral, quadrilateral-bit, demand-2}
 
 -- ---- a set bit
 
@@ -52,6 +53,21 @@ quadrilateral-has-reason s w out d c l =
       forward = told .forward .1 (one .1 .0 .1);
       trips = told .trip .1 (inr (inr (inr any)));
     }
+
+-- a fault by its equation
+through : {A B C D : Type 0} → Exactly A (B × C) → Exactly C D → Exactly A (B × D)
+through f g = (λ a. (f .0 a .0, g .0 (f .0 a .1)), λ h. f .1 (h .0, g .1 (h .1)))
+
+pub fault-told : FaultTold
+fault-told s w out d c p l m f e b =
+    let bits = demand-2 s w out d c .0 .phase-bits .1 .1 .1 in
+    let ir = residual (currentsOfEnd1 s w) in
+    let x = groundLoopOf (sixLoops s w) p in
+    let rule = quadrilateral-rule (replica s) (pos (reach s)) (resistiveReach s) ir x in
+    let fault = fault-equation (replica s) (pos (reach s)) (resistiveReach s) ir x m f e b in
+    through
+    (for-three (λ k. Exactly (isSet (3 + k) (byte d 1) ≡ true) (SeesResistive s w (groundLoopOf (sixLoops s w) k))) (bits .0) (bits .1 .0) (bits .1 .1 .0) p l)
+    (λ h. fault .0 (rule .1 h), λ h. rule .0 (fault .1 h))
 
 -- ---- two records that differ in R
 
@@ -144,4 +160,4 @@ quadrilaterals-off s w out d c e k l = byte-is s w out d c k l ∙ ap (λ x. byt
 pub records-before-r : RecordsBeforeR
 unfolding settingsTable
 records-before-r =
-    from-before resistiveReachRow (differentialRows ++ distanceRows ++ angleRows ++ directionRows ++ secondReachRow ∷ []) spareRows refl (λ s z. rw z)
+    from-before resistiveReachRow (differentialRows ++ distanceRows ++ angleRows ++ directionRows ++ secondReachRow ∷ []) spareRows (λ s z. rw z)

@@ -12,7 +12,7 @@ use lib.Seq.{getD-set-other}
 use lib.Signed.{_≤ℤ_}
 use Rattle.whole.specs.Bits.{bits}
 use Rattle.whole.proofs.Order.{le-ℤ}
-use Rattle.settings.specs.Table.{secondReachRow, resistiveReachRow, differentialRows, distanceRows, angleRows, directionRows, spareRows, settingsTable}
+use Rattle.settings.specs.Table.{Byte, secondReachRow, differentialRows, distanceRows, angleRows, directionRows, spareRows}
 use Rattle.settings.specs.Fields.{reach, secondReach}
 use Rattle.distance.specs.declared.mho.Ratio.{Ratio}
 use Rattle.direction.specs.Direction.{reachesPickup, directionOf}
@@ -71,6 +71,5 @@ other-bytes-stay s t w out d e h c b k n =
 -- ---- records from before
 
 pub records-from-before : RecordsFromBefore
-unfolding settingsTable
 records-from-before =
-    from-before secondReachRow (differentialRows ++ distanceRows ++ angleRows ++ directionRows) (resistiveReachRow ∷ spareRows) refl (λ s z. rw z)
+    from-before secondReachRow (differentialRows ++ distanceRows ++ angleRows ++ directionRows) (Byte 28 0 0 ∷ Byte 29 0 0 ∷ spareRows) (λ s z. rw z)

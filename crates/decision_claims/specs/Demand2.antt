@@ -1,6 +1,6 @@
 -- Demand 2 (document 01, "Decision record"; document 02, CR 2, "All demands cover both zones", CR 4, "The trip line in the decision
--- table is amended", CR 6, and CR 7, "any of them sets trip"): every quantity in a decision equals its definition. In all definitions s is the settings record in force, w
--- the window's numbers, d what the buffer holds after the call, and phases a, b, c are 0, 1, 2.
+-- table is amended", CR 6, and CR 7, "any of them sets trip"): every quantity in a decision equals its definition. In all definitions s is
+-- the settings record in force, w the window's numbers, d what the buffer holds after the call, and phases a, b, c are 0, 1, 2.
 use Prim.Native.Nat.{ℕ, _+_, _*_, _≤_, _<_}
 use mathlib.Core.Path.{_≡_}
 use mathlib.Core.Logic.{_⊎_}

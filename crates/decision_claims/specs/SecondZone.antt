@@ -2,13 +2,13 @@
 -- and d what the buffer holds after the call.
 use Prim.Native.Nat.{ℕ}
 use mathlib.Core.Path.{_≡_}
-use mathlib.Core.List.{List, _∷_, _++_}
+use mathlib.Core.List.{List}
 use mathlib.Core.Bool.{true}
 use lib.IntN.{ℤ}
-use Rattle.settings.specs.Table.{Rule, Byte, secondReachRow, resistiveReachRow, differentialRows, distanceRows, angleRows, directionRows, spareRows}
+use Rattle.settings.specs.Table.{secondReachRow}
 use Rattle.settings.specs.Fields.{secondReach}
 use Rattle.decision_claims.specs.Bits.{isSet}
-use Rattle.decision_claims.specs.Alike.{SameBut, FromBefore}
+use Rattle.decision_claims.specs.Alike.{SameBut, tableBeforeR, tableOf01, FromBefore}
 use Rattle.claims.specs.Decisions.{Decision}
 use Rattle.decision_claims.specs.Demand2.{byte}
 
@@ -24,9 +24,6 @@ OtherBytesStay =
     (s t : List ℕ) (w : List ℤ) (out d e : List ℕ) → SameBut secondReachRow s t → Decision s w out d → Decision t w out e
     → (k : ℕ) → (k ≡ 4 → ⊥) → byte d k ≡ byte e k
 
--- "Records from before read as off": bytes 26 and 27 were spare.
-abbrev pub tableBefore : List Rule
-tableBefore = differentialRows ++ distanceRows ++ angleRows ++ directionRows ++ Byte 26 0 0 ∷ Byte 27 0 0 ∷ resistiveReachRow ∷ spareRows
-
+-- "Records from before read as off": those of document 01's table, in which bytes 26 and 27 were spare.
 abbrev pub RecordsFromBefore : Type 0
-RecordsFromBefore = FromBefore secondReachRow tableBefore
+RecordsFromBefore = FromBefore secondReachRow tableBeforeR tableOf01

@@ -119,6 +119,7 @@ gorsepetal = record {
   at-another-slope = change.at-another-slope;
   change-moves-three = change.change-moves-three;
   quadrilateral-has-reason = quadrilaterals.quadrilateral-has-reason;
+  fault-told = quadrilaterals.fault-told;
   larger-r-keeps = quadrilaterals.larger-r-keeps;
   at-another-r = quadrilaterals.at-another-r;
   quadrilaterals-off = quadrilaterals.quadrilaterals-off;

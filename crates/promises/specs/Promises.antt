@@ -22,7 +22,7 @@ use Rattle.decision_claims.specs.Demand2.{Demand2}
 use Rattle.decision_claims.specs.SecondZone.{SecondZoneHasFirst, OtherBytesStay, RecordsFromBefore}
 use Rattle.decision_claims.specs.Balanced.{BalancedFault, BetweenLimits, NoVoltage, ElseAsBefore}
 use Rattle.decision_claims.specs.Change.{OneChange, SameStory, AtAnotherSlope, ChangeMovesThree}
-use Rattle.decision_claims.specs.Quadrilaterals.{QuadrilateralHasReason, LargerRKeeps, AtAnotherR, QuadrilateralsOff, RecordsBeforeR}
+use Rattle.decision_claims.specs.Quadrilaterals.{QuadrilateralHasReason, FaultTold, LargerRKeeps, AtAnotherR, QuadrilateralsOff, RecordsBeforeR}
 use Rattle.decision_claims.specs.Demand3.{Demand3First, Demand3Second, Demand3OfChange, TripHasReason, FaultTrips, ThroughDoesNot, ThroughIsQuiet}
 use Rattle.claims.specs.WhichRule.{WhichRule, WhichRuleOverHistories, WhichRuleByFeeding, WhichRuleByEvents, WhichRecord, WhichRecordOverHistories, SaidTwiceReadsBack, SaidTwiceDecides, SaidTwiceDecidesByFeeding}
 use Rattle.worked.specs.HandChecks.{HandChecks}
@@ -131,6 +131,7 @@ pub record Gorsepetal : Type 1 where
   pub change-moves-three : ChangeMovesThree
   -- the quadrilateral ground loops, and what they do not move
   pub quadrilateral-has-reason : QuadrilateralHasReason
+  pub fault-told : FaultTold
   pub larger-r-keeps : LargerRKeeps
   pub at-another-r : AtAnotherR
   pub quadrilaterals-off : QuadrilateralsOff

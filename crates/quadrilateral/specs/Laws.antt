@@ -28,9 +28,9 @@ NoResidual = (z : Phasor) (r : ℤ) (R : ℕ) (l : Loop) → sees z r R zero l �
 abbrev pub LargerResistiveReach : Type 0
 LargerResistiveReach = (z : Phasor) (r : ℤ) (R R₂ : ℕ) (ir : Phasor) (l : Loop) → R ≤ R₂ → sees z r R ir l ≡ true → sees z r R₂ ir l ≡ true
 
--- What the four sides are for. Let a fault lie at m thousandths of the replica, with a resistance of f millionths of a voltage count for a
--- current count in which Ir flows: V = m Z I + f Ir, source document 002's Equation 2. Where Z I leads Ir, as it does on an inductive line, the
--- top asks m alone and the sides f alone, whatever load flows: the fault is seen exactly where m is below r and |f| is at most R tenths.
+-- What the four sides are for. Let a fault lie at m thousandths of the replica, and let Ir flow through its resistance, f millionths of a
+-- voltage count for a current count: V = m Z I + f Ir, source document 002's Equation 2. Where Z I leads Ir, as it does on an inductive line,
+-- the top asks m alone and the sides f alone, whatever load flows: the fault is seen exactly where m is below r and |f| is at most R tenths.
 abbrev pub FaultEquation : Type 0
 FaultEquation =
     (z : Phasor) (r : ℤ) (R : ℕ) (ir : Phasor) (l : Loop) (m f : ℤ)

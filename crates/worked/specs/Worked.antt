@@ -1,8 +1,8 @@
 -- Whole decisions, from the samples to bytes 0 to 7: the paper mill's fault at both slopes, a fault on each of the six loops, one behind
--- the relay, three beyond the first zone, balanced faults (document 02, CR 4), faults at the slope at which they change (CR 6), and
--- resistive faults that the circles miss (CR 7). In the
--- loops' and the balanced faults what flows in at end 1 flows out at end 2. docs/HAND-CHECKS.md works the mill's, the AG and the first of the
--- balanced faults out; the other loops' faults are like these, turned by a third.
+-- the relay, three beyond the first zone, balanced faults (document 02, CR 4), faults at the slope at which they change (CR 6), and resistive
+-- faults that the circles miss (CR 7). In the loops', the balanced and most of the resistive faults what flows in at end 1 flows out at end 2.
+-- docs/HAND-CHECKS.md works the mill's, the AG, the first of the balanced and the first of the resistive faults out; the other loops' faults
+-- are like these, turned by a third.
 use Prim.Native.Nat.{ℕ, _+_}
 use mathlib.Core.Path.{_≡_}
 use mathlib.Core.List.{List, [], _∷_, _++_, map}
@@ -182,6 +182,8 @@ resistive =
     -- beyond the top, where the sound phases see it
     ∷ sided 28 (leaking (pos 900) (negated 1500) (0 ∷ 0 ∷ 0 ∷ 1 ∷ 0 ∷ []))
     ∷ sided 29 (leaking (pos 900) (negated 1500) (1 ∷ 48 ∷ 0 ∷ 1 ∷ 0 ∷ []))
+    -- b and c to ground, beyond the top of every loop of theirs: at the least R the loop of a, which has no fault, sees it
+    ∷ sided 1 (through ((pos 2000, pos 0) ∷ (negated 700, negated 800) ∷ (negated 700, pos 800) ∷ []) (none ∷ (negated 900, pos 300) ∷ (pos 900, pos 300) ∷ []) (1 ∷ 8 ∷ 0 ∷ 1 ∷ 0 ∷ []))
     -- behind
     ∷ sided 25 (through ((pos 600, negated 1500) ∷ (negated 1000, negated 1732) ∷ (negated 1000, pos 1732) ∷ []) ((pos 0, pos 600) ∷ none ∷ none ∷ []) (0 ∷ 0 ∷ 0 ∷ 2 ∷ 0 ∷ []))
     -- 3I2 at its pickup, and one below; T just below zf, and not
