@@ -6,8 +6,9 @@
 ** Contents: what the library is / in short / lent slices / the relay's state / what comes back /
 ** two entries / settings record / units / tests at the panel / what each field should be /
 ** conventions / a line of three ends, worked out / window / frame by frame / event files /
-** decision / balanced faults / the second zone / how far off the slope can be / rules / a decision,
-** worked out / outside the library / limits / constants / the ten calls.
+** decision / balanced faults / the second zone / the quadrilateral ground loops / how far off the
+** slope can be / rules / a decision, worked out / outside the library / limits / constants / the
+** ten calls.
 **
 ** WHAT THE LIBRARY IS
 **
@@ -109,19 +110,24 @@
 ** nothing is in force. So before going back, propose and confirm the record with a second reach of
 ** 0.
 **
-** Version 3 had the state and the records of this version. Such a state serves as it is, and the
-** other way round. But by version 4 the relay trips on balanced faults too: see BALANCED FAULTS,
-** for load above all.
+** Versions 3 to 5 had the state of this version, and records without R: in these, offsets 28 and 29
+** are zero. Such a state serves as it is: R is 0, and the quadrilateral ground loops are off. Only
+** a record that these versions counted as absent for R alone may be good now. The way back is the
+** same matter as for version 2: by versions 3 to 5 a record with an R counts as absent. So before
+** going back, propose and confirm the record with an R of 0.
 **
-** Version 4.0 had the state and the records of this version, and no event files. Such a state
-** serves as it is, and the other way round. A reader of event files is a slice of its own, and no
-** part of the state.
+** By version 4 the relay trips on balanced faults too: see BALANCED FAULTS, for load above all.
+** Version 4.0 had no event files. A reader of event files is a slice of its own, and no part of the
+** state; readers of versions 4.1 and 5 serve as they are, and the other way round.
 **
-** Version 4.1 had the state, the records and the readers of this version. They serve as they are,
-** and the other way round. But by version 5 bytes 5, 6 and 7 of a decision are not zero any more:
-** see HOW FAR OFF THE SLOPE CAN BE. Firmware that compares whole decisions, or that took these
-** bytes for zero, has to know it. In a decision that was stored by an older version, zeros there
-** tell nothing.
+** By version 5 bytes 5, 6 and 7 of a decision are not zero any more: see HOW FAR OFF THE SLOPE CAN
+** BE. Firmware that compares whole decisions, or that took these bytes for zero, has to know it. In
+** a decision that was stored by an older version, zeros there tell nothing.
+**
+** By version 6 byte 1 of a decision may also have the bits 8, 16 and 32, where R is not 0: see THE
+** QUADRILATERAL GROUND LOOPS. Firmware that read byte 1 as phases has to mask it with
+** GORSEPETAL_PHASES. With an R of 0 every byte of a decision is what it was by version 5. A byte 1
+** that was stored by an older version has no bits but those of the phases.
 **
 ** WHAT COMES BACK
 **
@@ -214,16 +220,18 @@
 **   22  REVERSE_LIMIT             reverse limit zr, signed      0.001 V/I       -20000  20000
 **   24  NEGATIVE_SEQUENCE_PICKUP  pickup of 3I2                 counts of peak  1       42000
 **   26  SECOND_REACH              second reach r2               0.001 of Z      0 or r  2000
-**   28  -                         four spare bytes              -               0       0
+**   28  RESISTIVE_REACH           resistive reach R             0.1 V/I         0       1000
+**   30  -                         two spare bytes               -               0       0
 **
 ** V/I is one voltage count per current count. It is NOT an ohm: the next section has the way from
 ** ohms.
 **
 ** The squares of the two parts of D sum to 998000 at least and 1002000 at most; an error is
 ** reported at 18. zf is below zr; an error is reported at 22. r2 is 0, which switches the second
-** zone off, or from r to 2000, r itself too; every error of it is reported at 26. The fields are
-** checked in order of offset, and the rules at 18 and 22 right after the range there. A spare byte
-** that is not zero is reported at its own offset, 28 to 31.
+** zone off, or from r to 2000, r itself too; every error of it is reported at 26. R is 0, which
+** switches the quadrilateral ground loops off, or from 1 to 1000; an error is reported at 28. The
+** fields are checked in order of offset, and the rules at 18 and 22 right after the range there. A
+** spare byte that is not zero is reported at its own offset, 30 to 31.
 **
 ** UNITS
 **
@@ -236,6 +244,7 @@
 **
 **   Z, zf, zr     thousandths of V/I, a voltage count per current count
 **                 setting = 1000 x ohms(secondary) x cv / ci
+**   R             tenths of V/I: setting = 10 x ohms(secondary) x cv / ci
 **   r, r2         thousandths of Z: 800 reaches as far as 0.8 Z, and 1500 as far as 1.5 Z
 **   k             1000 x (Z0 - Z1) / (3 Z1), a ratio: cv and ci have no part in it
 **   D             1000 x (cos, sin) of the line angle, the angle of Z1
@@ -248,19 +257,21 @@
 **   ohms(secondary)   = ohms(primary) x CT ratio / VT ratio
 **
 ** Settings are whole numbers. Round to the nearest. Where a bound has to be kept, round to its safe
-** side: Z and r down, r2 up, and a pickup up if the current must not be lower.
+** side: Z, r and R down, r2 up, and a pickup up if the current must not be lower.
 **
 ** The mho rule uses the products r x Z and r2 x Z and nothing else of the three. Where Z1 comes to
 ** more than 20000, enter half of it as Z and twice the r: 1640 with Z1 / 2 is 820 with Z1. But r2
 ** ends at 2000, which with Z1 / 2 is 1000 with Z1 and no overreach. With 0.6 Z1 it is 1200 with Z1,
 ** and r is then 1367 in place of 820. Where r2 would come to more than 2000, enter a larger Z, and
-** a smaller r and r2. A zf or zr beyond 20000 is entered as 20000, with its sign.
+** a smaller r and r2. The quadrilateral ground loops use r x Z too, and beside it the angle of Z
+** alone, so R stays as it is. A zf or zr beyond 20000 is entered as 20000, with its sign.
 **
 ** WARNING. No range can tell one unit from another. With cv / ci = 1/2 a replica entered in
 ** thousandths of an ohm is twice as large as it should be: propose and confirm both answer 0, and
 ** at r = 800 zone 1 reaches 160 percent of the line. With cv / ci above 1 it reaches too short. A
-** zf or zr that is too large leaves faults without a direction. So work the settings out with cv
-** and ci, let a second person do it too, and TEST THE RELAY before it guards the line.
+** zf or zr that is too large leaves faults without a direction. An R in tenths of an ohm is twice
+** as wide as it should be. So work the settings out with cv and ci, let a second person do it too,
+** and TEST THE RELAY before it guards the line.
 **
 ** TESTS AT THE PANEL
 **
@@ -280,6 +291,12 @@
 **     to be forward at f = 1.05 and none at f = 0.95.
 **   - Reverse limit: the current turned round, and Va = E - f x zr x Ia. The direction has to be
 **     reverse at f = 1.05 and none at f = 0.95.
+**   - Quadrilateral, if R is not 0, with R in ohms: Ia behind the usual angle of Va by the line
+**     angle, and Va = |m Z (1 + k) + F| x Ia, ahead of Ia by the angle of m Z (1 + k) + F. For the
+**     sides let m = r / 2, and F = f x R, and then F = -f x R. For the top let m = f x r, and F be
+**     half of R. In byte 1 GORSEPETAL_QUADRILATERAL_A has to be set at f = 0.95 and not at f =
+**     1.05, each time. Then the same on the other phases, with their bits. In the two tests of the
+**     limits all three bits have to be clear wherever the direction is none or reverse.
 **   - Balanced fault: three voltages V at their usual angles, three currents I, each behind its
 **     voltage by the angle of Z, and V = f x r x |Z| x I. Byte 2 has to be 63 at f = 0.95 and 0 at
 **     f = 1.05, and byte 3 has to be 0 at both. With the currents turned round byte 2 has to be 0
@@ -334,7 +351,7 @@
 **        differential covers all of the line. Beyond the tee, current that another end feeds in
 **        makes a loop see a fault farther away than it is; current that an end lets out makes it
 **        see the fault nearer, and r has to be smaller there. Distance cannot be switched off; r =
-**        1 leaves a thousandth of it.
+**        1 leaves a thousandth of the circles, and R = 0 takes the quadrilaterals away.
 **   k, D of the line from the relay to that same end. A k beyond its range, as of some cables,
 **        cannot be set; the ground loops then reach otherwise.
 **   zf   the relay measures V2 / I2, its part along the line angle. For a fault ahead that is minus
@@ -375,6 +392,9 @@
 **        r2 is a fraction, and the load angle is that by which the current is behind the voltage.
 **        So V / I has to be larger than this at the largest load and the lowest voltage. Where r2
 **        cannot do both, the load decides: a lamp that is lit under load tells nothing.
+**   R    0 if faults with resistance are left to the differential. Otherwise see THE QUADRILATERAL
+**        GROUND LOOPS, which trip: what R has to cover, what it must stay short of, and what the
+**        firmware has to ask before it passes such a trip on.
 **
 ** CONVENTIONS
 **
@@ -419,10 +439,12 @@
 **   Zs of the far end that seems farthest:
 **   1.0 + j 5.0 ohm
 **   the second zone covers 120 percent of it          r2   = 1200 x 5.099 / 4.079 = 1500
+**   faults to ground of 2 ohm, half of whose current
+**   comes from the other ends: 4 ohm                  R    = 10 x 4 x 0.5 = 20
 **
 ** As 32 bytes, two a field:
 **
-**   0003 001E 0039 0190 07D0 0320 0274 001A 00C4 03D5 FF1F 028A 001C 05DC 0000 0000
+**   0003 001E 0039 0190 07D0 0320 0274 001A 00C4 03D5 FF1F 028A 001C 05DC 0014 0000
 **
 ** In thousandths of an ohm Z would have been 800 + j 4000: a good record too, and a reach of 160
 ** percent of the line.
@@ -691,7 +713,8 @@
 **
 **   bytes      content
 **   0          trip: 1 or 0
-**   1          the phases whose differential operates, added up: a=1, b=2, c=4
+**   1          the phases whose differential operates, added up: a=1, b=2, c=4; and to these the
+**              quadrilateral ground loops that operate: A=8, B=16, C=32
 **   2          the loops that assert, added up: AG 1, BG 2, CG 4, AB 8, BC 16, CA 32
 **   3          direction: 0 none, 1 forward, 2 reverse
 **   4          the loops that assert in the second zone, added up as in byte 2; 0 where r2 is 0
@@ -705,6 +728,21 @@
 **   24 to 27   the same of phase b
 **   28 to 31   the same of phase c
 **
+** Byte 1 has two things in it. Masked with GORSEPETAL_PHASES it is the phases, and with
+** GORSEPETAL_QUADRILATERALS the quadrilateral ground loops; it is 0 to 63. Where R is 0 it is the
+** phases alone.
+**
+** Why a relay has tripped can be read from the decision. More than one reason may hold at a time:
+**
+**   byte 1 & GORSEPETAL_PHASES is not 0           the differential of these phases operates
+**   byte 1 & GORSEPETAL_QUADRILATERALS is not 0   a fault to ground ahead; byte 3 is 1
+**   byte 3 is 1, and byte 2 is not 0              a fault ahead, in the first zone
+**   byte 3 is 0, and byte 1 is 0 too              a balanced fault, in the first zone; byte 2 is
+**                                                 56 to 63
+**
+** If byte 1 is not 0 and byte 3 is 0, the decision does not tell whether the rule for balanced
+** faults held too. The same window decided with a K of 100 does: byte 0 is then by distance alone.
+**
 ** BALANCED FAULTS
 **
 ** A fault of all three phases alike has no negative sequence, and so no direction: byte 3 reads 0.
@@ -712,15 +750,6 @@
 ** BC and CA all assert in byte 2. The ground loops and the second zone have no part in it. Where
 ** 3I2 reaches its pickup this rule is out, whatever byte 3 reads: with T between the limits, byte 3
 ** reads 0 and distance does not trip.
-**
-** Why a relay has tripped can be read from the decision. More than one reason may hold at a time:
-**
-**   byte 1 is not 0                     the differential of these phases operates
-**   byte 3 is 1, and byte 2 is not 0    a fault ahead, in the first zone
-**   byte 3 is 0, and byte 1 is 0 too    a balanced fault, in the first zone; byte 2 is 56 to 63
-**
-** If byte 1 is not 0 and byte 3 is 0, the decision does not tell whether the rule for balanced
-** faults held too. The same window decided with a K of 100 does: byte 0 is then by distance alone.
 **
 ** No direction is asked, no least current and no least voltage. What follows from that has to be
 ** seen to before version 4 guards a line:
@@ -735,10 +764,10 @@
 **     trips as said before. With two lost, none of them sees it farther than at half of V / I: it
 **     trips at half the current. With all three lost and nothing left, no loop asserts; but if a
 **     count of noise is left, any load may trip. Firmware that can tell that a voltage is lost has
-**     to hold back a trip in which byte 1 is 0.
+**     to hold back a trip in which no phase operates: byte 1 & GORSEPETAL_PHASES is 0.
 **   - A LINE THAT IS OFF. Noise of a few counts in all channels may trip now and then. Where a trip
-**     must not come then, the firmware has to ask for a current before it passes on one in which
-**     byte 1 is 0.
+**     must not come then, the firmware has to ask for a current before it passes on one in which no
+**     phase operates.
 **   - NEXT TO THE RELAY. A balanced fault that leaves no voltage at all asserts no loop, since
 **     there is no polarising memory: distance does not trip on it. The differential can. If noise
 **     is left of the voltages, the sign of m is chance, and distance may trip now and then, on a
@@ -763,8 +792,8 @@
 ** the same at every r2. It has no timer. After a refusal out still holds the decision before; what
 ** the lamp does then is the firmware's matter.
 **
-** r2 is not below r. So where the second zone is on, a loop that asserts in byte 2 asserts in
-** byte 4 too:
+** The quadrilateral ground loops have no second zone: they go by r. r2 is not below r. So where the
+** second zone is on, a loop that asserts in byte 2 asserts in byte 4 too:
 **
 **   byte 2   byte 4   what the loops see
 **   0        0        no fault within r2; or, if r2 is 0, none within r
@@ -789,6 +818,80 @@
 ** A lamp that has to stay dark in the first two cases is lit only if byte 3 is not
 ** GORSEPETAL_DIRECTION_REVERSE, which takes a 3I2 at its pickup. In the third nothing here can
 ** tell.
+**
+** THE QUADRILATERAL GROUND LOOPS
+**
+** A fault to ground with resistance, as through an arc or the soil around a cable, may lie outside
+** the circles of the mho loops, which byte 2 reports. Where R is not 0, each of the three ground
+** loops has a quadrilateral beside its circle (document 02, CR 7, after source document 002). In
+** byte 1 GORSEPETAL_QUADRILATERAL_A, GORSEPETAL_QUADRILATERAL_B and GORSEPETAL_QUADRILATERAL_C say
+** which of them operate, and each of them trips. All other bits and bytes but the trip are the same
+** at every R.
+**
+**   top       the reactance test, X > 0: the fault is nearer than r x Z, whatever its resistance
+**   2 sides   10 |n| <= R |q|: its resistance is not above R, nor below -R, as the loop sees it
+**   bottom    the direction is forward: byte 3 is 1
+**
+** RULES has X, n and q. V, I and Z are those of the circles, and r is the first reach. Ir, the sum
+** of Ia, Ib and Ic, is the residual current of end 1, and the same for all three loops. On the top
+** itself a loop does not operate, and on a side itself it does. A larger R keeps each bit that is
+** set. Where Ir is 0, none is set.
+**
+** WHAT IT MEASURES. A fault at a part m of Z, through a resistance F in V/I, has V = m Z I + F Ir,
+** if what flows through F is Ir alone (Equation 2 of source document 002). Then n = F q, and X = (m
+** - r) q, with m and r in thousandths. In the loop of the fault Z I is ahead of Ir, so q is below
+** 0. Then the loop operates exactly if R is not 0, the direction is forward, m is below r, and F is
+** from -R / 10 to R / 10. The resistance does not move the top, nor the distance the sides. Where
+** load, or the fault of another phase, turns Z I behind Ir, q is above 0 and the top is upside
+** down: the loop operates on what it sees beyond r.
+**
+** What resistance a fault had can be read from its recording: decide on it with one R after the
+** other, in a relay that guards no line. The least R that sets the bit is the resistance that this
+** loop sees, in tenths of V/I, rounded up, and 1 at least.
+**
+** A quadrilateral needs no polarising voltage, and so no memory of one. In a solid fault next to
+** the relay, where V is 0, it operates. Where 3V1 is 0 it may operate, and no circle can. But it
+** needs a direction. Below the pickup of 3I2, and with T between the limits, none operates. So that
+** pickup has to be below the 3I2 of the weakest fault that R is to cover. With no voltage at all T
+** is 0, and the direction is forward only if zf is above 0.
+**
+** THE UNIT OF R is a tenth of V/I: R = 10 allows one voltage count for each count of Ir. UNITS has
+** the way from ohms. With cv / ci = 0.5, R = 20 is 4 ohm, and its range is 0.2 to 200 ohm.
+**
+** HOW TO CHOOSE R, in secondary volts, amperes and ohms:
+**
+**   - Infeed. R has to cover F x |If / Ir|, where If is all of the current through the resistance,
+**     from every end. If the other ends feed as much as end 1, the fault looks twice as far to the
+**     side. Where If and Ir differ in angle, the top is tilted: a fault at m is seen at about m + F
+**     x Im(If / Ir) / Im[Z (1 + k)]. On the line worked out above, with F = 2 ohm and an If of
+**     twice Ir and 10 degrees behind it, that is 0.106 of Z nearer than it is. There r has to be so
+**     much smaller.
+**   - Load. Balanced load has no Ir and no 3I2, and so sets no bit. But with one phase open it has
+**     both, and the loop of that phase sees it at V / I x sin(line angle - load angle) / sin(line
+**     angle). Where that can be, R has to be below this at the largest load and the lowest voltage.
+**     On the line worked out above, with R = 20, at 50 V and a load angle of 30 degrees, such a
+**     load sets no bit up to 9.5 A.
+**   - Sound phases. In a solid fault of one phase, with little load, the loops of the other two see
+**     about 0.87 E / (Ir x sin(line angle)), E being a sound voltage. R has to be below this for
+**     the largest Ir of a fault beyond the line. On the line worked out above, fed from end 1 alone
+**     through j 0.9 ohm in each sequence, a solid fault at the far end has an Ir of 7.66 A: 6.7
+**     ohm.
+**
+** WARNING. No loop has a bottom of its own: the direction is one for all three. To the loop of a
+** sound phase most faults ahead seem to lie behind, so the top lets them pass however far away they
+** are, and the sides alone hold them back. Two kinds of fault pass these too. A fault of two phases
+** to ground: the loop of the third sees next to no resistance. And where the line angle is above 60
+** degrees, a fault of one phase with much resistance: the loop of the phase behind it, as b is
+** behind a, sees the less the more it has, down to none. On the line above, fed as above, with R =
+** 20: a solid fault of b and c to ground at three times Z sets A; a fault of a at the far end sets
+** B if it has 8 to 28 ohm.
+**
+** So with any R but 0 the relay can trip on faults beyond the line, unless the firmware asks for
+** more. A fault on the line has a differential in its phase, and a fault beyond has none but the
+** charging current and what transformer errors add. So before the firmware passes on a trip by
+** these loops alone, in which byte 1 & GORSEPETAL_PHASES and byte 2 are 0, it has to ask for a
+** differential in the phase of the bit: bytes 20 to 23 for A, 24 to 27 for B, 28 to 31 for C.
+** examples/resistive.c does so.
 **
 ** HOW FAR OFF THE SLOPE CAN BE
 **
@@ -817,8 +920,9 @@
 ** c does not depend on K. A decision that was taken at a wrong slope has the same c as at the right
 ** one, so it still tells what the right one would have done. One recording answers for all slopes,
 ** be it handed to decide or feed once more, or read as an event file. Decide on it with a K of 100,
-** in a relay that guards no line: byte 1 is then 0, and byte 0 is by distance alone. At a slope of
-** x the relay would have tripped exactly if byte 0 is 1, or one of bytes 5 to 7 is x or more.
+** in a relay that guards no line: no phase operates then, and byte 0 is by distance alone. At a
+** slope of x the relay would have tripped exactly if byte 0 is 1, or one of bytes 5 to 7 is x or
+** more.
 **
 ** Of the record c depends on N and on the pickup alone: below the pickup it is 0. To see c of a
 ** smaller differential, decide on it with a pickup of 1, in a relay that guards no line.
@@ -842,7 +946,7 @@
 ** c is of this window and of its rounded phasors. The currents before rounding agree with it within
 ** one and a half counts an end. Their differential is at least c percent of their restraint, less
 ** 1.5 N counts. Where the pickup is reached, it is at most c + 1 percent of it, and 1.5 N counts
-** more. Of a restraint of R counts these counts are 150 N / R percent. For the mill, with 140
+** more. Of a restraint of W counts these counts are 150 N / W percent. For the mill, with 140
 ** counts at two ends, that is 2.1 percent, and for 3000 counts it is 0.1. So with few counts c
 ** tells little. A steady wave of the mill's currents has c = 42 in some windows and c = 43 in
 ** others.
@@ -899,6 +1003,13 @@
 **   n = Re(V Vp*), m = Re(Z I Vp*); a loop asserts exactly when m > 0 and 1000000 n <= r m
 **   in the second zone, exactly when r2 > 0 and m > 0 and 1000000 n <= r2 m
 **
+** Quadrilateral ground loops, with V and I of AG, BG and CG, and Ir = Ia + Ib + Ic, without k. Im(p
+** q*) of p = (x, y) and q = (u, v) is yu - xv. Nothing is rounded:
+**
+**   X = Im[(r Z I - 1000000 V) Ir*], n = Im[V (Z I)*], q = Im[Ir (Z I)*]
+**   a loop operates exactly when R > 0, X > 0, q is not 0, 10 |n| <= R |q|, and the direction is
+**   forward. A is of AG, B of BG, C of CG
+**
 ** Differential of a phase, over the phasors I1 to IN of its currents, one of each end:
 **
 **   s = |I1 + .. + IN|^2
@@ -908,7 +1019,8 @@
 **       there is none. It is 99 at most, since 64 times the root of s is at most U
 **
 ** Trip: 1 exactly when a phase operates, or the direction is forward and a loop asserts, or |3I2|^2
-** < (pickup of 3I2)^2 and AB, BC and CA all assert. The second zone has no part in it.
+** < (pickup of 3I2)^2 and AB, BC and CA all assert, or a quadrilateral ground loop operates. The
+** second zone has no part in it.
 **
 ** A DECISION, WORKED OUT
 **
@@ -926,6 +1038,10 @@
 **       1000000 n = 5000000000000 <= 800 m = 7974400000000: asserts, and so in the second zone too
 **   AB: n = 12990000   m = 5259920000: 12990000000000 > 4207936000000, does not assert
 **       12990000000000 > 1500 m = 7889880000000: nor in the second zone
+**   A:  Ir = (110, -590)   Z I = (1993600, 4800)   X = 351401600000, above 0
+**       n = -4800000   q = -1176752000   10 |n| = 48000000 <= 20 |q| = 23535040000: operates
+**   B:  Z I = (769600, 20800)   X = 1145601600000, above 0   n = -1312147200   q = -456352000
+**       10 |n| = 13121472000 > 20 |q| = 9127040000: does not operate, nor does C
 **   phase a: s = 150^2 + 790^2 = 646600, above 57^2; U = 38411 + 13054 = 51465
 **       40960000 s = 26484736000000 > (30 x 51465)^2 = 2383781602500: operates
 **       26484736000000 > (99 x 51465)^2 = 25959381651225, and not > (100 x 51465)^2 =
@@ -934,7 +1050,7 @@
 **
 ** The other loops do not assert, and phases b and c have s = U = 0, and c = 0. The 32 bytes:
 **
-**   01 01 01 01 01 63 00 00 00 00 C9 09 00 00 00 00 00 00 00 00 00 00 C9 07 00 00 00 00 00 00 00 00
+**   01 09 01 01 01 63 00 00 00 00 C9 09 00 00 00 00 00 00 00 00 00 00 C9 07 00 00 00 00 00 00 00 00
 **
 ** Then a fault beyond the line: Va (1800, 0), Ia of end 1 (83, -444), Ia of end 2 (-83, 444), and
 ** all else as above. What flows in at end 1 flows out at end 2.
@@ -945,6 +1061,8 @@
 **       10440000000000 > 800 m = 6963712000000: does not assert
 **       10440000000000 <= 1500 m = 13056960000000: asserts in the second zone
 **   phase a: s = 0; U = 28909 + 28909 = 57818; c = 0, since s is below 57^2
+**   A:  X = -265744000000, not above 0: does not operate
+**   B:  10 |n| = 9866672000 > 20 |q| = 5175400000: does not operate, nor does C
 **
 ** The direction is forward, and no loop but AG asserts in the second zone. There is no trip. The
 ** lamp is lit:
@@ -966,10 +1084,12 @@
 **     so on load, on a swing of power or on noise that looks like one, and on some faults behind:
 **     BALANCED FAULTS says on which.
 **   - Where the polarising quantity Vp is zero, as in a fault next to the relay with all three
-**     voltages gone, no loop asserts, in either zone, and distance does not trip. A voltage that is
-**     lost to a blown fuse looks like a fault to the loops. It trips if the direction is forward,
-**     which takes a 3I2 at its pickup; or below that, if AB, BC and CA all assert. The lamp asks
-**     for neither, so load alone can light it then.
+**     voltages gone, no loop asserts, in either zone, and no circle trips. A voltage that is lost
+**     to a blown fuse looks like a fault to the loops. It trips if the direction is forward, which
+**     takes a 3I2 at its pickup; or below that, if AB, BC and CA all assert. The lamp asks for
+**     neither, so load alone can light it then.
+**   - A quadrilateral ground loop may operate on a fault beyond the line, by the loop of another
+**     phase: THE QUADRILATERAL GROUND LOOPS says on which, and what the firmware has to ask.
 **   - The second zone cannot tell a fault near the far end of the line from one beyond it, and it
 **     asserts for some faults behind the relay: THE SECOND ZONE says for which.
 **   - Clipped samples are not detected. A converter that clips at -32768 turns a heavy fault into
@@ -1024,8 +1144,8 @@ extern "C" {
 #endif
 
 /* The version of this file and of the archive: text, and 10000 major + 100 minor + patch. */
-#define GORSEPETAL_VERSION "5.0.0"
-#define GORSEPETAL_VERSION_NUMBER 50000
+#define GORSEPETAL_VERSION "6.0.0"
+#define GORSEPETAL_VERSION_NUMBER 60000
 
 /* Lengths in bytes: a relay's state, a settings record and a decision. */
 #define GORSEPETAL_STATE_LENGTH 738
@@ -1076,6 +1196,7 @@ extern "C" {
 #define GORSEPETAL_AT_REVERSE_LIMIT 22
 #define GORSEPETAL_AT_NEGATIVE_SEQUENCE_PICKUP 24
 #define GORSEPETAL_AT_SECOND_REACH 26
+#define GORSEPETAL_AT_RESISTIVE_REACH 28
 
 /* The offset of each part of a decision. */
 #define GORSEPETAL_DECISION_AT_TRIP 0
@@ -1093,10 +1214,16 @@ extern "C" {
 #define GORSEPETAL_DECISION_AT_DIFFERENTIAL_B 24
 #define GORSEPETAL_DECISION_AT_DIFFERENTIAL_C 28
 
-/* The bits of a decision's phases, and of its loops in either zone. */
+/* The bits of a decision's phases, and all of them; of its quadrilateral ground loops, and all of
+** them, in the same byte; and of its loops in either zone. */
 #define GORSEPETAL_PHASE_A 1
 #define GORSEPETAL_PHASE_B 2
 #define GORSEPETAL_PHASE_C 4
+#define GORSEPETAL_PHASES 7
+#define GORSEPETAL_QUADRILATERAL_A 8
+#define GORSEPETAL_QUADRILATERAL_B 16
+#define GORSEPETAL_QUADRILATERAL_C 32
+#define GORSEPETAL_QUADRILATERALS 56
 #define GORSEPETAL_LOOP_AG 1
 #define GORSEPETAL_LOOP_BG 2
 #define GORSEPETAL_LOOP_CG 4

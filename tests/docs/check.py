@@ -5,9 +5,9 @@
   their definitions, and no others; its version is the newest of docs/CHANGES.md. Its manual names nothing of the library that it does not
   declare. In it the tables of numbers, of fields, of the state, of the window, of a decision and of the loops, each call's list of checks,
   what is said of feed and the formulas of the rules have the source's figures and order, the limits those of the transform, the worked
-  record follows from its own formulas, and the worked decision, the tests at the panel and what is said of balanced faults and of the slope
-  at which a phase changes from the independent program. The bytes of an event file's record and of its reader are the source's; what ends a
-  reading, and what is noticed of a file and what is not, the independent program shows.
+  record follows from its own formulas, and the worked decision, the tests at the panel and what is said of balanced faults, of the
+  quadrilateral ground loops and of the slope at which a phase changes from the independent program. The bytes of an event file's record and
+  of its reader are the source's; what ends a reading, and what is noticed of a file and what is not, the independent program shows.
 - What docs/RULES.md and the manual say that an answer leaves of the state, of a reader and of the lent room is what the independent program
   leaves.
 - In README.md, docs/ and tests/independent/README.md each path in backticks is there (`*` stands for any name), and each link leads to a
@@ -20,7 +20,7 @@
   gave, which must all have been proved here.
 - docs/WRONG-RELAYS.md: it names each must-fail edit below its crate, in the order of the layers, and no other.
 - docs/HAND-CHECKS.md: its sums come out; in its root each call follows from the next; its example of feed, its event files, its decisions,
-  its slopes at which a phase changes, and its tables of several faults at once, say what the independent program does.
+  its slopes at which a phase changes, its quadrilaterals, and its tables of several faults at once, say what the independent program does.
 - docs/RULES.md: its rules are numbered, and each says by which request it stands and names definitions, which have its figures, or for a
   rule of ours a section of the manual; its tables and drawings say what the source says; its examples follow from their formulas.
 - crates.txt names what each crate uses, and nothing more. One function calls itself, and the header says so.
@@ -38,6 +38,7 @@ import events  # noqa: E402
 import events_left  # noqa: E402
 import hand_checks  # noqa: E402
 import hand_events  # noqa: E402
+import hand_quadrilaterals  # noqa: E402
 import hand_slopes  # noqa: E402
 import header  # noqa: E402
 import layers  # noqa: E402
@@ -45,6 +46,7 @@ import left  # noqa: E402
 import lines  # noqa: E402
 import manual  # noqa: E402
 import promises  # noqa: E402
+import quadrilateral  # noqa: E402
 import rules  # noqa: E402
 import slopes  # noqa: E402
 import worked  # noqa: E402
@@ -69,8 +71,10 @@ def main():
         'limits in the manual': manual.check_limits(),
         'settings worked out in the manual': worked.check_example(),
         'steps of the decision worked out in the manual': worked.check_decision(),
-        'tests at the panel': worked.check_tests() + worked.check_pickup_test() + slopes.check_slope_test() + slopes.check_one_end(),
+        'tests at the panel': (worked.check_tests() + worked.check_pickup_test() + slopes.check_slope_test() + slopes.check_one_end()
+                               + quadrilateral.check_panel()),
         'sentences on how far off the slope can be': slopes.check_manual(),
+        'sentences on the quadrilateral ground loops': quadrilateral.check_manual() + quadrilateral.check_version(),
         'figures of the zones under load': balanced.check_load(),
         'sentences on lost voltages': balanced.check_fuses(),
         'faults close behind': balanced.check_behind(),
@@ -86,6 +90,7 @@ def main():
         'answers to several faults at once': hand_checks.check_orders(),
         'steps with event files in the hand checks': hand_events.check_events(),
         'slopes and decisions in the hand checks': hand_slopes.check_hand_slopes(),
+        'quadrilaterals in the hand checks': hand_quadrilaterals.check_hand(),
         'rules': rules.check_rules(),
         'figures in the rules': rules.check_figures(),
         'fields in the rules': rules.check_settings(),

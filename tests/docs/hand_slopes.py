@@ -167,6 +167,7 @@ DECISIONS = {
     'The fault of "Sequence quantities"': ({}, SAG, (IN, OUT)),
     'The same fault farther away': ({'AT_SECOND_REACH': 1200}, ((1600, 0), *SAG[1:]), (IN, OUT)),
     'A balanced fault': ({}, ((500, 0), (-250, -433), (-250, 433)), (BALANCED, [(-x, -y) for x, y in BALANCED])),
+    'A fault with resistance': ({'AT_RESISTIVE_REACH': 25}, ((600, -1500), *SAG[1:]), ([(0, -600)], [(0, 600)])),
 }
 
 
@@ -196,8 +197,15 @@ def check_decisions():
     mill, others = on(MILL, SAID, 60), [on(MILL, HEARD, 60), on(MILL, SAID, 61)]
     if [[k for k in range(32) if mill[k] != other[k]] for other in others] != [[0, 1], [0, 1, CHANGE]] or any(others[0][:2] + others[1][:8]):
         wrong('at another slope, or with another pickup, the decision on the mill differs in other bytes than is said')
+    fields, *fault = DECISIONS['A fault with resistance']
+    inside, beyond = (decided_on({'AT_RESISTIVE_REACH': r}, *fault) for r in (fields['AT_RESISTIVE_REACH'], fields['AT_RESISTIVE_REACH'] - 1))
+    if bytes(2) + inside[2:] != beyond or not all(inside[:2]):
+        wrong('at a resistive reach that is one less, the decision on the fault with resistance differs in other bytes than is said')
     return told + has(PAGE, page(), f'Byte {CHANGE} stays too: at the slope as heard it still says {mill[CHANGE]}. With pickup 61 bytes 0, 1 and '
-                      f'{CHANGE} are 0.', f'c of a: {mill[CHANGE]} = {mill[CHANGE]:02X} hex')
+                      f'{CHANGE} are 0.', f'c of a: {mill[CHANGE]} = {mill[CHANGE]:02X} hex',
+                      f'At a resistive reach of {fields["AT_RESISTIVE_REACH"] - 1} bytes 0 and 1 are 0, and all others stay as they are.',
+                      f'with a resistive reach of {fields["AT_RESISTIVE_REACH"]}, bytes 28 and 29 = {fields["AT_RESISTIVE_REACH"]:04X}.',
+                      f'{COUNTED[len(DECISIONS)].capitalize()} windows, by the record at the top of this page')
 
 
 def check_hand_slopes():

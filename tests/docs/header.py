@@ -14,6 +14,8 @@ WINDOW = Path('crates/samples/specs/Window.antt')
 RECORD = Path('crates/records/specs/Record.antt')
 READER = Path('crates/files/specs/Reader.antt')
 ANSWERS = Path('crates/answers/specs/Answers.antt')
+DECISION_RECORD = Path('crates/findings/specs/DecisionRecord.antt')
+QUADRILATERAL = Path('crates/quadrilateral/specs/Quadrilateral.antt')
 C_TYPES = {'usize': 'size_t', **{f'{kind}{bits}': f'{"u" * (kind == "u")}int{bits}_t' for kind in 'ui' for bits in (8, 16, 32, 64)}}
 
 
@@ -137,15 +139,24 @@ def six_loops():
 
 # Each part of a decision that has one byte, by the definition of its bytes. What the trip is made of stands there too: the second zone is
 # not among it.
-PARTS = {'trip (f .operating) (f .asserting) (f .direction) (f .unbalanced)': 'TRIP', 'f .operating': 'PHASES', 'f .asserting': 'LOOPS',
+PARTS = {'trip (f .operating) (f .quadrilaterals) (f .asserting) (f .direction) (f .unbalanced)': 'TRIP',
+         'phaseByte (f .operating) (f .quadrilaterals)': 'PHASES', 'f .asserting': 'LOOPS',
          'directionNumber (f .direction)': 'DIRECTION', 'f .overreaching': 'SECOND_ZONE',
          **{f'f .changes .{phase}': f'CHANGE_{phase.upper()}' for phase in 'abc'}}
+
+
+def quadrilaterals():
+    """The bit of each quadrilateral in the byte of the phases, by its letter: its bit among the three, times what that byte says."""
+    beside = re.fullmatch(r'operating \+ (\d+) \* quadrilaterals', definition(DECISION_RECORD, 'phaseByte'))
+    if not beside:
+        faults.append(f'{DECISION_RECORD}: `phaseByte` has a form that this check does not know')
+    return {loop[0]: bit * int(beside[1] if beside else 0) for loop, bit in weights(QUADRILATERAL, 'seeing').items()}
 
 
 def decision_parts():
     """The offset of each part and its length, by `decisionBytes`: a `word` has four bytes, all else one."""
     at, found = 0, {}
-    for part in re.split(r' (?:∷|\+\+) ', definition('crates/findings/specs/DecisionRecord.antt', 'decisionBytes')):
+    for part in re.split(r' (?:∷|\+\+) ', definition(DECISION_RECORD, 'decisionBytes')):
         word = re.fullmatch(r'word \((magnitude \()?f \.comparisons \.(\w)( \.restraint)?\)+', part)
         name = PARTS.get(part)
         if word:
@@ -270,7 +281,9 @@ def wanted_constants():
         **{f'EVENTS_{name}': value for name, value in public('events').items()},
         'FRAMES': samples['FRAMES'], 'MISSING': samples['MISSING'], 'LARGEST_SAMPLE': -samples['MISSING'] - 1,
         'STATE_AT_IN_FORCE': in_force, 'STATE_AT_PENDING': pending, 'STATE_AT_COUNT': count, 'STATE_AT_NUMBERS': numbers, **decision_offsets(),
-        **{f'PHASE_{name}': bit for name, bit in phases.items()}, **{f'LOOP_{name}': bit for name, bit in loops.items()}, **directions(),
+        **{f'PHASE_{name}': bit for name, bit in phases.items()}, 'PHASES': sum(phases.values()),
+        **{f'QUADRILATERAL_{name}': bit for name, bit in quadrilaterals().items()}, 'QUADRILATERALS': sum(quadrilaterals().values()),
+        **{f'LOOP_{name}': bit for name, bit in loops.items()}, **directions(),
     }
 
 

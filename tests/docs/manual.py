@@ -7,7 +7,7 @@ from itertools import groupby
 from pathlib import Path
 
 from header import (HEADER, answers, constants, decision_offsets, decision_parts, directions, exported, header, placed, public,
-                    reader_parts, six_loops, state_offsets, wanted_constants, weights)
+                    quadrilaterals, reader_parts, six_loops, state_offsets, wanted_constants, weights)
 from tree import blank, fault, faults, read
 
 TABLE = Path('crates/settings/specs/Table.antt')
@@ -210,6 +210,9 @@ def rules_on_fields():
     spare = [rule.split()[1] for rule in settings_rules() if rule.startswith('Byte ')]
     yield f'A spare byte that is not zero is reported at its own offset, {spare[0]} to {spare[-1]}'
     yield f'{"no one two three four five six".split()[len(spare)]} spare bytes'
+    for at, low, high in field_rows():
+        if int(at) == wanted_constants().get('AT_RESISTIVE_REACH'):
+            yield f'R is {low}, which switches the quadrilateral ground loops off, or from {int(low) + 1} to {high}; an error is reported at {at}'
 
 
 def check_settings_table():
@@ -249,18 +252,21 @@ def check_window():
 def check_decision_table():
     """The table of a decision has its parts at their offsets, and the bits and numbers of the definitions."""
     rows = re.findall(r'^\*\*   (\d+)(?: to (\d+))?  +(\S.*)$', section('DECISION'), flags=re.MULTILINE)
-    told = ' '.join(text for _, _, text in rows)
+    told = plain('DECISION')
     found = [(int(first), int(last or first)) for first, last, _ in rows]
     wanted = [(at, at + length - 1) for at, length in decision_parts().values()]
     if found != wanted:
         faults.append(f'{HEADER}: the table of a decision has {found}; the source has {wanted}')
     phases = weights('crates/differential/specs/Differential.antt', 'operatingBits')
     loops = weights('crates/distance/specs/Mho.antt', 'loopBits')
-    second = f'in the second zone, added up as in byte {decision_offsets().get("DECISION_AT_LOOPS")}; 0 where r2 is 0'
+    at = decision_offsets()
+    second = f'in the second zone, added up as in byte {at.get("DECISION_AT_LOOPS")}; 0 where r2 is 0'
     change = (f'c of phase a, 0 to {largest_slope() - 1}: the phase operates at the slopes 1 to c, and at no other '
-              'the same of phase b the same of phase c')
+              f'{at["DECISION_AT_CHANGE_B"]} the same of phase b {at["DECISION_AT_CHANGE_C"]} the same of phase c')
+    beside, most = ', '.join(f'{name}={bit}' for name, bit in quadrilaterals().items()), sum(phases.values()) + sum(quadrilaterals().values())
     for words in (', '.join(f'{name.lower()}={bit}' for name, bit in phases.items()), ', '.join(f'{name} {bit}' for name, bit in loops.items()),
-                  ', '.join(f'{bit} {name.removeprefix("DIRECTION_").lower()}' for name, bit in directions().items()), second, change):
+                  ', '.join(f'{bit} {name.removeprefix("DIRECTION_").lower()}' for name, bit in directions().items()), second, change,
+                  f'and to these the quadrilateral ground loops that operate: {beside}', f'it is 0 to {most}. Where R is 0 it is the phases alone'):
         if words not in told:
             faults.append(f'{HEADER}: the table of a decision does not say "{words}"')
     return len(rows)
@@ -288,7 +294,7 @@ def check_rules():
     """The figures that the rules have are those of the source: each formula stands in the manual with the source's constants."""
     text = plain('RULES')
     mho, scale = constants('distance', 'mho.rt'), constants('direction', 'sequence.rt')['SCALE']
-    differential, phasors = constants('differential'), constants('phasors')
+    differential, phasors, quadrilateral = (constants(crate) for crate in ('differential', 'phasors', 'quadrilateral'))
     turn = re.findall(r'pos (\d+)', re.search(r'^a = .*$', read(SEQUENCE), flags=re.MULTILINE).group())
     wanted = [
         'C[n] ' + ' '.join(map(str, cosines())) + ' S[n]',
@@ -301,6 +307,9 @@ def check_rules():
         f's >= pickup^2 and {differential["SLOPE_SCALE"]} s > (K U)^2',
         f'from 1 to {largest_slope()} with s >= pickup^2 and {differential["SLOPE_SCALE"]} s > (x U)^2; 0 if there is none. It is '
         f'{largest_slope() - 1} at most, since {math.isqrt(differential["SIXTY_FOURTHS_SQUARED"])} times the root of s is at most U',
+        f'X = Im[(r Z I - {quadrilateral["REACH_SCALE"]} V) Ir*], n = Im[V (Z I)*], q = Im[Ir (Z I)*]',
+        f'exactly when R > 0, X > 0, q is not 0, {quadrilateral["TENTHS"]} |n| <= R |q|, and the direction is forward. A is of AG, B of BG, C of CG',
+        'or a quadrilateral ground loop operates. The second zone has no part in it.',
     ]
     faults.extend(f'{HEADER}: RULES does not have "{formula}"' for formula in wanted if formula not in text)
     return len(wanted)

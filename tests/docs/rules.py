@@ -132,11 +132,22 @@ def worked_out(name):
         'windowAt': {count, first - 1, first, end - 1, longest}, 'none': {longest}, 'emptied': {end - count},
         'keptAnswer': {constants()['frames'] - 1},
         'groups': {header.record_bytes(ends, status) for ends in range(2, 7) for status in (0, 96)},
-        'ChangeMovesThree': {constants()['decisionLength'] - 1},
+        'ChangeMovesThree': {constants()['decisionLength'] - 1}, 'AtAnotherR': {constants()['decisionLength'] - 1},
+        'phaseByte': {*header.quadrilaterals().values()},
     }.get(name, set())
 
 
 # Checks
+
+
+def fields():
+    """The numbers of the rules that the table of fields has."""
+    return [rule.number for rule in rules() if 'at' in rule.cells]
+
+
+def later_fields():
+    """Those of them that do not follow the one before: fields that are newer than the page's other rules."""
+    return {n for before, n, after in zip(fields(), fields()[1:], fields()[2:]) if after == before + 1 and n > after}
 
 
 def requests():
@@ -146,10 +157,13 @@ def requests():
 
 
 def check_rules():
-    """Rules count up from 1. Each says what changed it last, and names definitions or a section of the manual. A rule that is referred to
-    is there. The page has the newest version."""
+    """Rules count up from 1; the table of fields goes by offset, so in it a rule may have a later number. Each says what changed it last, and
+    names definitions or a section of the manual. A rule that is referred to is there. The page has the newest version."""
     text, known = read(PAGE), definitions().keys() | set(re.findall(r'\bfn (\w+)', read(SESSION)))
-    for n, rule in enumerate(rules(), 1):
+    later = later_fields()
+    counted = (n for n in range(1, len(rules()) + 1) if n not in later)
+    for rule in rules():
+        n = rule.number if rule.number in later else next(counted, 0)
         by = rule.cells.get('by')
         wrong = [
             (not rule.cells, 'has not as many cells as its table has columns'),
@@ -232,10 +246,12 @@ def check_settings():
             else:
                 wanted[-1][0] = f'{wanted[-1][0].split()[0]} to {words[0]}'
     found = [row[:3] + [row[3].strip('`')] for row in columns('at', 'from', 'to', 'definition')]
-    fields = [rule.number for rule in rules() if 'at' in rule.cells] or [0]
+    first, *_, last = fields() or [0, 0]
     for rule in rules():
-        if {'checkedBy', 'GoodRecord'} & set(named(rule)) and f'R{fields[0]} to R{fields[-1]}' not in rule.cells['now']:
-            fault(PAGE, read(PAGE), rule.at, f'R{rule.number} does not name R{fields[0]} to R{fields[-1]}, the table of fields')
+        if {'checkedBy', 'GoodRecord'} & set(named(rule)):
+            missing = [words for words in (f'R{first} to R{last}', *(f'R{n}' for n in later_fields())) if words not in rule.cells['now']]
+            for words in missing:
+                fault(PAGE, read(PAGE), rule.at, f'R{rule.number} does not name {words}, of the table of fields')
     return compare('the table of fields', found, wanted)
 
 
@@ -346,8 +362,9 @@ def check_decision():
     compare('the decision', found, wanted)
     said = ' '.join(text for _, text in rows)
     bits = [f'{bit} for {phase.lower()}' for phase, bit in header.weights(DIFFERENTIAL, 'operatingBits').items()]
+    beside = 'and quadrilaterals that operate: ' + ', '.join(f'{bit} for {name}' for name, bit in header.quadrilaterals().items())
     directions = [f'{name.removeprefix("DIRECTION_").lower()} {number}' for name, number in header.directions().items()]
-    faults.extend(f'{PAGE}: the decision does not say "{words}"' for words in (', '.join(bits), ', '.join(directions)) if words not in said)
+    faults.extend(f'{PAGE}: the decision does not say "{words}"' for words in (', '.join(bits), beside, ', '.join(directions)) if words not in said)
     compare('the bits of the loops', columns('loop', 'bit'), [[loop, str(bit)] for loop, bit in header.weights(MHO, 'loopBits').items()])
     loops = header.six_loops()
     compare('the loops', columns('loop', 'V', 'I', 'Vp'), loops)

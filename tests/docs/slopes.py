@@ -93,12 +93,15 @@ def check_meaning():
         last = each[largest_slope()]
         for slope, found in each.items():
             bits = sum(bit for bit, c in zip((1, 2, 4), found[CHANGES]) if slope <= c)
-            if found[1] != bits or found[2:] != last[2:] or found[0] != int(last[0] == 1 or max(last[CHANGES]) >= slope):
+            others = found[1] & AT['QUADRILATERALS'], found[2:]
+            if (found[1] & AT['PHASES'] != bits or others != (last[1] & AT['QUADRILATERALS'], last[2:])
+                    or found[0] != int(last[0] == 1 or max(last[CHANGES]) >= slope)):
                 faults.append(f'{HEADER}: {TITLE}, at slope {slope} bytes 0 to 7 are {found[:8].hex(" ")}, which is not what is said of c')
     return has(HEADER, plain(TITLE), f'Bytes {CHANGE}, {CHANGE + 1} and {CHANGE + 2} have a number c for each phase (document 02, CR 6)',
                'the phase operates at the slopes 1 to c and at no other', "The phase's bit in byte 1 is set exactly if K is at most c.",
                'at slope c it operates, and at slope c + 1 it does not', 'c does not depend on K.',
-               f'Decide on it with a K of {largest_slope()}, in a relay that guards no line: byte 1 is then 0, and byte 0 is by distance alone.',
+               f'Decide on it with a K of {largest_slope()}, in a relay that guards no line: no phase operates then, and byte 0 is by distance '
+               'alone.',
                f'exactly if byte 0 is 1, or one of bytes {CHANGE} to {CHANGE + 2} is x or more',
                '0 it operates at no slope: the differential is below the pickup, or at most 1 percent of the restraint '
                f'1 to {MOST - 1} it operates up to slope c {MOST} it operates at every slope but {largest_slope()}, at which no phase does')
@@ -162,7 +165,7 @@ def check_rounding():
         faults.append(f"{HEADER}: {TITLE}, a steady wave of the mill's currents has c = {sorted(found[1])}")
     return has(HEADER, plain(TITLE), 'within one and a half counts an end', f'at least c percent of their restraint, less {counts:g} N counts',
                f'at most c + 1 percent of it, and {counts:g} N counts more',
-               f'Of a restraint of R counts these counts are {percent:g} N / R percent. For the mill, with {restraint} counts at two ends, '
+               f'Of a restraint of W counts these counts are {percent:g} N / W percent. For the mill, with {restraint} counts at two ends, '
                f'that is {2 * percent / restraint:.1f} percent, and for {large} counts it is {2 * percent / large:g}.',
                f"A steady wave of the mill's currents has c = {least} in some windows and c = {least + 1} in others.",
                'L = the sum over the ends of the floor of the root of m^2 (A^2 + B^2), H = L + N',
@@ -253,7 +256,8 @@ def check_asked():
               f'{operates[HEARD]}, at {HEARD}; it would at {c}, not at {c + 1}', f'at {SAID} {operates[SAID]}, at {HEARD} {operates[HEARD]}',
               f'with a pickup above {reached}', 'with nothing out at end 2', f'{c + 1} in some windows']
     rules.compare('what is said of the paper mill', [[*row.values()][-1] for row in rows], wanted)
-    first, last = next((rule.number for rule in rules.rules() if 'slopeOfChange' in rules.named(rule)), 0), rules.rules()[-1].number
+    opening, text = next((rule.at for rule in rules.rules() if 'slopeOfChange' in rules.named(rule)), 0), read(rules.PAGE)
+    first, *_, last = [rule.number for rule in rules.rules() if opening <= rule.at < text.find('\n## ', opening)] * 2 or [0, 0]
     return len(rows) + check_version() + has(
         rules.PAGE, ' '.join(read(rules.PAGE).split()), f'| the paper mill: {SAID} was meant, {HEARD} was heard, c = {c} |',
         f'byte {CHANGE} of the decision if it is about phase a, byte {CHANGE + 1} for phase b, byte {CHANGE + 2} for phase c.',

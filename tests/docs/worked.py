@@ -11,7 +11,7 @@ from manual import plain, section, words
 from tree import ROOT, faults, read
 
 sys.path.insert(0, str(ROOT / 'tests/independent'))
-from model import decision, measuring  # noqa: E402
+from model import decision, measuring, quadrilateral  # noqa: E402
 
 # The record
 
@@ -31,20 +31,22 @@ def check_example():
     farthest, over = complex(*given(r'that seems farthest:\n\*\* +(\S+) \+ j (\S+) ohm')), 10 * given(r'second zone covers (\d+) percent')[0]
     ratio, k, angle = 1000 * volt / ampere, 1000 * (z0 - z1) / (3 * z1), 1000 * z1 / abs(z1)
     peak, second = math.sqrt(2) * ampere, over * abs(farthest) / abs(z1)
+    of_fault, ohms = given(r'faults to ground of (\S+) ohm, half of whose current\n\*\* +comes from the other ends: (\S+) ohm')
+    resistive = 10 * ohms * volt / ampere
     wanted = [3, given(r'slope (\d+) percent')[0], peak * given(r'differential pickup (\S+) A')[0], ratio * z1.real, ratio * z1.imag,
               10 * given(r'zone 1 covers (\d+) percent')[0], k.real, k.imag, angle.real, angle.imag,
               -ratio * given(r'source behind: (\S+) ohm')[0] / 2, ratio * given(r'what lies ahead: (\S+) ohm')[0] / 2,
-              peak * given(r'pickup of 3I2 (\S+) A')[0], second, 0, 0]
+              peak * given(r'pickup of 3I2 (\S+) A')[0], second, resistive, 0]
     shown = re.search(r'^\*\*   ((?:[0-9A-F]{4} ?){16})$', text, flags=re.MULTILINE)
     record = ' '.join(f'{round(value) % 65536:04X}' for value in wanted)
     if not shown or shown.group(1) != record:
         faults.append(f'{HEADER}: the worked line comes to {record}')
-    for value in map(round, wanted[:14]):
+    for value in map(round, wanted[:15]):
         if not re.search(rf'(?<!\d){value}(?!\d)'.replace('-', r'-'), text):
             faults.append(f'{HEADER}: the worked line does not show {value}')
-    divided = f'{over:.0f} x {abs(farthest):.3f} / {abs(z1):.3f} = {second:.0f}'
-    if divided not in words(text):
-        faults.append(f'{HEADER}: the worked line does not show "{divided}"')
+    for sum_ in (f'{over:.0f} x {abs(farthest):.3f} / {abs(z1):.3f} = {second:.0f}', f'ends: {2 * of_fault:g} ohm R = 10 x {ohms:g} x {volt / ampere:g} = {resistive:.0f}'):
+        if sum_ not in words(text):
+            faults.append(f'{HEADER}: the worked line does not show "{sum_}"')
     return len(wanted)
 
 
@@ -103,6 +105,7 @@ class Worked(NamedTuple):
     i2: measuring.Phasor
     T: int
     loops: dict      # each by its name
+    quadrilaterals: dict   # X, n and q of A, B and C
     decided: bytes
 
 
@@ -112,7 +115,16 @@ def worked_out(record, phasors):
     v, i = by_channel[0:3], by_channel[3:6]
     v2, i2 = measuring.negative(*v), measuring.negative(*i)
     return Worked(line, [by_channel[3], by_channel[6]], i, measuring.positive(*v), v2, i2, measuring.T(line, v2, i2),
-                  {loop.name: loop for loop in measuring.loops(line, v, i)}, decided(record, numbers))
+                  {loop.name: loop for loop in measuring.loops(line, v, i)}, quadrilateral.by_phase(line, v, i), decided(record, numbers))
+
+
+def against_sides(w, name, ends=''):
+    """A quadrilateral's n against its sides, as the manual compares them; which has to be what the decision says."""
+    _, n, q = w.quadrilaterals[name]
+    inside, bit = 10 * abs(n) <= w.line.R * abs(q), wanted_constants()[f'QUADRILATERAL_{name}']
+    if inside != bool(w.decided[1] & bit):
+        faults.append(f'{HEADER}: the worked decision compares {name} with its sides, and they do not decide')
+    return f'10 |n| = {10 * abs(n)} {"<=" if inside else ">"} {w.line.R} |q| = {w.line.R * abs(q)}: {"operates" if inside else "does not operate"}{ends}'
 
 
 def steps_on_the_line(text, record, r2):
@@ -122,7 +134,11 @@ def steps_on_the_line(text, record, r2):
     e = measuring.k_product(line, w.i)
     (n, m), (n_ab, m_ab) = (measuring.n_and_m(line.Z, w.loops[name]) for name in ('AG', 'AB'))
     s, u, c = measuring.squared(measuring.plus(*w.currents)), int.from_bytes(w.decided[8:12], 'big'), w.decided[5]
+    (x_a, n_a, q_a), (x_b, n_b, q_b), _ = w.quadrilaterals.values()
+    of_a, of_b = (shown(measuring.times(line.Z, w.loops[name].i)) for name in ('AG', 'BG'))
     return [
+        f'A: Ir = {shown(quadrilateral.residual(w.i))} Z I = {of_a} X = {x_a}, above 0 n = {n_a} q = {q_a} {against_sides(w, "A")}',
+        f'B: Z I = {of_b} X = {x_b}, above 0 n = {n_b} q = {q_b} {against_sides(w, "B", ", nor does C")}',
         f'3V1 = {shown(w.v1)}', f'3V2 = {shown(w.v2)}', f'3I2 = {shown(w.i2)}', f'|3I2|^2 = {square}, above {line.pickup}^2',
         f'T = {w.T}, below {line.zf} x {square} = {line.zf * square}: forward',
         f'E = {shown(e)} by 1000 = ({ag.i.re - w.i[0].re}, {ag.i.im - w.i[0].im})',
@@ -143,7 +159,9 @@ def steps_beyond(text, first, record, r2):
     square = measuring.squared(w.i2)
     if [*w.decided[:5]] != [0, 0, 0, 1, measuring.BITS['AG']] or 1000000 * n <= 1000 * m:
         faults.append(f'{HEADER}: the fault beyond the line is not one that AG sees beyond Z, in the second zone alone, without a trip')
+    x, *_ = w.quadrilaterals['A']
     return [
+        f'A: X = {x}, not above 0: does not operate B: {against_sides(w, "B", ", nor does C")}',
         f'3V1 = {shown(w.v1)} 3V2 = {shown(w.v2)} 3I2 = {shown(w.i2)} |3I2|^2 = {square}',
         f'T = {w.T}, below {w.line.zf} x {square} = {w.line.zf * square}: forward',
         f'AG: n = {n} m = {m}, so it seems to lie at {1000000 * n // m} thousandths of Z {compared(n, w.line.r, m)}: does not assert {compared(n, r2, m)}: asserts in the second zone',
