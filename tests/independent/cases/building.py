@@ -30,7 +30,7 @@ LINE = Line(ends=2, Z=Phasor(800, 5000), r=850, k=Phasor(667, -40),
 
 def record(line: Line, slope: int = 15, differential: int = 100) -> bytes:
     values = (line.ends, slope, differential, *line.Z, line.r, *line.k,
-              *line.D, line.zf, line.zr, line.pickup, line.r2)
+              *line.D, line.zf, line.zr, line.pickup, line.r2, line.R)
     two = [value.to_bytes(2, 'big', signed=field.signed)
            for field, value in zip(FIELDS, values, strict=True)]
     result = b''.join(two) + bytes(len(SPARE))
@@ -58,6 +58,7 @@ def corners() -> Iterator[Line]:
     changes += [{'pickup': pickup} for pickup in (LOW[24], HIGH[24])]
     changes += [{'r2': r2} for r2 in (LINE.r, LINE.r + 1, HIGH[26])]
     changes += [{'r': r, 'r2': r} for r in (LOW[10], HIGH[10])]
+    changes += [{'R': R} for R in (1, HIGH[28])]
     return (LINE._replace(**change) for change in changes)
 
 
@@ -76,6 +77,13 @@ def any_second(rng: random.Random, r: int) -> int:
     return rng.choice([OFF, OFF, r, HIGH[26], between, between])
 
 
+def any_resistive(rng: random.Random) -> int:
+    """A resistive reach: off in two thirds; else any, at times the least or
+    the largest."""
+    some = rng.randint(1, HIGH[28])
+    return rng.choice([OFF] * 4 + [some, rng.choice([1, some, HIGH[28]])])
+
+
 def any_line(rng: random.Random) -> Line:
     """Each setting anywhere in its range, often at an end of it."""
     def setting(at: int) -> int:
@@ -86,7 +94,8 @@ def any_line(rng: random.Random) -> Line:
     r = setting(10)
     return Line(ends=rng.choice(ENDS), Z=Phasor(setting(6), setting(8)), r=r,
                 k=Phasor(setting(12), setting(14)), D=any_angle(rng), zf=zf,
-                zr=zr, pickup=setting(24), r2=any_second(rng, r))
+                zr=zr, pickup=setting(24), r2=any_second(rng, r),
+                R=any_resistive(rng))
 
 
 # ---- Samples of one channel, and windows of them ---------------------------

@@ -7,8 +7,8 @@ import random
 from itertools import chain, cycle
 from typing import Iterable, Iterator, NamedTuple
 
-from cases import (balanced, changes, currents, hand_checks, roots, second_zone,
-                   trying, windows)
+from cases import (balanced, changes, currents, hand_checks, quadrilateral,
+                   roots, second_zone, trying, windows)
 from cases.building import HIGH, LINE, LOW, any_line, record
 from cases.records import put
 from model.differential import slope
@@ -67,7 +67,7 @@ def once(some: Iterable[Chosen]) -> Iterator[Chosen]:
 
 
 def one_by_one() -> Iterator[Chosen]:
-    lines = cycle([LINE, LINE._replace(r2=HIGH[26])])
+    lines = cycle([LINE, LINE._replace(r2=HIGH[26], R=HIGH[28])])
     for found in chain(changes.each_slope(), changes.fixed()):
         yield from tried(found, next(lines))
     yield from (Chosen(*found) for found in balanced.fixed())
@@ -81,25 +81,42 @@ def one_by_one() -> Iterator[Chosen]:
         yield Chosen(label, record(on), numbers)
     for found in currents.fixed():
         yield from tried(found, next(lines))
+    at_many = chain.from_iterable(quadrilateral.each_resistance())
+    for found in chain(quadrilateral.fixed(), at_many):
+        yield Chosen(*found)
 
 
 def fixed() -> Iterator[Chosen]:
     return once(one_by_one())
 
 
+def resistances(chosen: Chosen) -> list[int]:
+    """R just enough for one of its quadrilaterals, and one less; else the
+    largest."""
+    given = line(chosen.record)
+    enough = quadrilateral.just_enough(given, phasors(chosen.numbers,
+                                                      given.ends))
+    return sorted({*enough, *(R - 1 for R in enough)}) or [HIGH[28]]
+
+
 def at_an_edge(rng: random.Random, chosen: Chosen) -> Chosen:
-    """With a slope and a pickup at an edge of one of its phases, or with a
-    reach at an edge of one of its loops."""
-    if rng.random() < 0.5:
+    """With a slope and a pickup at an edge of one of its phases, with a reach
+    at an edge of one of its loops, or with R at an edge of one of its
+    quadrilaterals."""
+    kind = rng.random()
+    if kind < 0.4:
         return at_reaches(chosen, rng.choice(reaches(chosen)))
+    if kind < 0.6:
+        return Chosen(*quadrilateral.at_resistance(
+            chosen, rng.choice(resistances(chosen))))
     ends = slope(chosen.record).ends
     return at_pair(chosen, *rng.choice(trying.edges(ends, chosen.numbers)))
 
 
 def endless(rng: random.Random) -> Iterator[Chosen]:
-    """One in nine is a balanced fault."""
+    """One in ten is a balanced fault, and one in ten a quadrilateral."""
     of_lines, of_currents = windows.endless(rng), currents.endless(rng)
-    of_balanced = balanced.endless(rng)
+    of_balanced, of_quads = balanced.endless(rng), quadrilateral.endless(rng)
     while True:
         yield Chosen(*next(of_lines))
         yield at_an_edge(rng, Chosen(*next(of_lines)))
@@ -107,3 +124,5 @@ def endless(rng: random.Random) -> Iterator[Chosen]:
         yield rng.choice([*tried(next(of_currents), any_line(rng))])
         if rng.random() < 0.5:
             yield Chosen(*next(of_balanced))
+        if rng.random() < 0.5:
+            yield Chosen(*next(of_quads))

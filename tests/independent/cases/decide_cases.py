@@ -7,7 +7,7 @@ import random
 from itertools import chain, cycle, islice, product
 from typing import Callable, Iterator, NamedTuple
 
-from cases import chosen, records, second_reach
+from cases import chosen, records, resistive_reach, second_reach
 from cases.building import (ENDS, HIGH, LINE, as_data, largest, of_phases,
                             record, without)
 from cases.chosen import Chosen
@@ -106,7 +106,8 @@ def stored() -> Iterator[Call]:
     all_ends = (records.put(good(2), 0, ends) for ends in range(9))
     for in_force in chain(records.field_edges(), some_angles,
                           records.limit_edges(), records.spare_bytes(),
-                          second_reach.records(), all_ends):
+                          second_reach.records(), resistive_reach.records(),
+                          all_ends):
         ends = int.from_bytes(in_force[:2], 'big')
         numbers = strong(ends if ends < 9 else 2)
         yield plain(Chosen('in force, at an edge', in_force, numbers))

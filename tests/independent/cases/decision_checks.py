@@ -1,6 +1,7 @@
 """Document 01's hand checks as windows, with what a decision on each should
 show, one of document 02's second zone, which does not trip, one of its
-balanced faults, and those of the slope c at which a phase changes.
+balanced faults, those of the slope c at which a phase changes, and a fault with
+resistance that a quadrilateral alone sees.
 
 checks() puts them to model/decision.py; windows() gives each window once, for
 an archive.
@@ -12,10 +13,11 @@ from cases import currents, hand_checks
 from cases.building import (ZERO, exact, exact_case, of_phases, record,
                             turned, window)
 from cases.trying import QUIET
-from model.decision import FORM, decision_record
+from model.decision import FORM, PHASE_BITS, decision_record
 from model.differential import SLOPES
+from model.measuring import Phasor
 
-NAMES = ('trip', 'phases', 'loops', 'direction', 'second zone', 'change of a',
+NAMES = ('trip', 'byte 1', 'loops', 'direction', 'second zone', 'change of a',
          'change of b', 'change of c', 'U of a', 'U of b', 'U of c',
          'root of a', 'root of b', 'root of c')
 
@@ -24,13 +26,15 @@ class Check(NamedTuple):
     name: str
     record: bytes
     window: list[int]
-    expected: dict[str, int]    # by NAMES, or whether a phase operates
+    expected: dict[str, int]    # by the names that decision() gives
 
 
 def decision(good: bytes, numbers: list[int]) -> dict[str, int]:
-    """By NAMES, and whether each phase operates."""
+    """By NAMES, the parts of byte 1, and whether each phase operates."""
     found = dict(zip(NAMES, FORM.unpack(decision_record(good, numbers)),
                      strict=True))
+    found['phases'] = found['byte 1'] & PHASE_BITS
+    found['quadrilaterals'] = found['byte 1'] - found['phases']
     for bit, letter in zip((1, 2, 4), 'abc'):
         found[f'{letter} operates'] = int(found['phases'] & bit != 0)
     return found
@@ -129,6 +133,20 @@ def balanced() -> Iterator[Check]:
                         'direction': towards, 'second zone': second})
 
 
+def with_resistance() -> Iterator[Check]:
+    """The fault with resistance worked by hand, what comes in at end 1 going
+    out at end 2. No circle sees it, and no phase operates. It trips if a
+    quadrilateral sees it."""
+    volts, amps = hand_checks.RESISTIVE
+    out = [(-re, -im) for re, im in amps]
+    numbers = window([exact(value) for value in (*volts, *amps, *out)], 2)
+    for (k, r, R), bits in hand_checks.OF_RESISTIVE.items():
+        line = hand_checks.LINE._replace(k=Phasor(k, 0), r=r, zf=-509, R=R)
+        yield Check(f'resistive, k={k}, r={r}, R={R}', record(line), numbers, {
+            'trip': int(bits != 0), 'byte 1': bits, 'direction': 1,
+            'loops': 0})
+
+
 # ---- The slope at which it changes -----------------------------------------
 
 # The two ends of a phase, the pickup, and c. The first is the paper mill's
@@ -171,6 +189,7 @@ def all_of_them() -> Iterator[Check]:
     yield from p12_to_p14()
     yield from does_not_trip()
     yield from balanced()
+    yield from with_resistance()
     yield from paper_mill()
     yield next(change('no current', NOTHING, 15))
 

@@ -3,14 +3,14 @@ calls between, with missing samples, with pieces of every length."""
 from itertools import chain, cycle
 from typing import Iterator
 
-from cases import changes, records
+from cases import changes, quadrilateral, records
 from cases.building import ENDS, LARGEST, as_data
 from cases.event_files import (CLOSED, FILLED, GROUPS, File, amid, asked, at_work, by_bytes, closed, cut_at, file, handed, of_groups,
                                of_load, opened, read, reading, whole)
 from cases.frames import entered, faults, feeds, frames, good, load, missing_at, steady, wave
 from cases.records import FRESH, ROOM
 from cases.steps import History
-from model.measuring import MISSING, channels
+from model.measuring import FRAMES, MISSING, channels, length
 
 WITH_STATUS = {2: 1, 3: 17, 4: 33, 5: 80, 6: 96}
 ROOMS = (ROOM, bytes(33), b'\xa5' * 64)
@@ -167,6 +167,18 @@ def changing() -> Iterator[History]:
         yield History(at_work(ends), whole(given, given.records), f'changing, {ends} ends', (CLOSED,))
 
 
+def quadrilaterals() -> Iterator[History]:
+    """Windows of quadrilateral.py one after another, each with its own record, which is entered between two records of the file."""
+    found = list(quadrilateral.each_byte())
+    for ends in ENDS:
+        some = [(record, numbers) for _, record, numbers in found if len(numbers) == length(ends)]
+        given = file(ends, 0, [frame for _, numbers in some for frame in frames(numbers, ends)])
+        steps = opened(ends, 0)
+        for n, (record, _) in enumerate(some):
+            steps += entered(record) + reading(given.records[FRAMES * n:][:FRAMES], given.size)
+        yield History(at_work(ends), steps + closed(), f'quadrilaterals, {ends} ends', (CLOSED,))
+
+
 def samples() -> Iterator[History]:
     """Each channel missing, alone and with others; the largest numbers; numbers of which the mark's bytes are a part; faults."""
     for ends in ENDS:
@@ -209,4 +221,4 @@ def all_in_one() -> Iterator[History]:
 
 def fixed() -> Iterator[History]:
     return chain(cut_in_two(), cut_in_three(), single_bytes(), ended_inside(), every_status(), one_after_another(), side_by_side(),
-                 read_on(), between(), not_ended(), changing(), samples(), long_pieces(), all_in_one())
+                 read_on(), between(), not_ended(), changing(), quadrilaterals(), samples(), long_pieces(), all_in_one())

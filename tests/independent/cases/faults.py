@@ -21,6 +21,7 @@ class Place(NamedTuple):
     volts: complex      # of the source, in counts
     source: complex
     load: complex       # current before the fault, in counts
+    resistance: float = 0   # of a ground fault
 
 
 def sequence_currents(place: Place, z1: complex, z0: complex):
@@ -30,7 +31,7 @@ def sequence_currents(place: Place, z1: complex, z0: complex):
     if place.fault == 'abc':
         return 0, place.volts / z1, 0
     if place.fault.endswith('g'):
-        return (place.volts / (2 * z1 + z0),) * 3
+        return (place.volts / (2 * z1 + z0 + 3 * place.resistance),) * 3
     return 0, place.volts / (2 * z1), -place.volts / (2 * z1)
 
 

@@ -1,5 +1,5 @@
 """The calls of feed that are compared, in their histories: the ones that CR 1
-to CR 4 and CR 6 of document 02 suggest, one by one.
+to CR 4, CR 6 and CR 7 of document 02 suggest, one by one.
 
 Most are long runs through one relay. A state that no run would leave is lent
 as it is.
@@ -7,8 +7,8 @@ as it is.
 from itertools import chain, cycle, islice, product
 from typing import Iterator
 
-from cases import (balanced, changes, chosen, decision_checks, records, roots,
-                   second_reach)
+from cases import (balanced, changes, chosen, decision_checks, quadrilateral,
+                   records, resistive_reach, roots, second_reach)
 from cases.building import (ENDS, HIGH, LARGEST, LINE, as_data, largest,
                             record, window)
 from cases.decide_cases import ENOUGH, SMALL, repeated, strong
@@ -30,7 +30,7 @@ def room(size: int) -> bytes:
     return repeated(b'\x5a', size)
 
 
-# ---- Changes, roots, and balanced faults -----------------------------------
+# ---- Changes, roots, balanced faults, and quadrilaterals -------------------
 
 def held_and_fed(label: str, entry: bytes, numbers: list[int]) -> History:
     """A window as a steady wave that the relay holds, and the frame with which
@@ -56,6 +56,13 @@ def of_roots() -> Iterator[History]:
 
 def of_balanced() -> Iterator[History]:
     for found in balanced.fixed():
+        yield held_and_fed(*found)
+
+
+def of_quadrilaterals() -> Iterator[History]:
+    """And for each N a window with many R."""
+    at_many = chain.from_iterable(quadrilateral.each_resistance(every=False))
+    for found in chain(quadrilateral.fixed(), at_many):
         yield held_and_fed(*found)
 
 
@@ -283,7 +290,8 @@ def stored() -> Iterator[History]:
     """Records at the edges of the rules found in force, with a frame of their
     own length where N is not far off, and what may be pending."""
     for in_force in chain(records.field_edges(), records.limit_edges(),
-                          records.spare_bytes(), second_reach.records()):
+                          records.spare_bytes(), second_reach.records(),
+                          resistive_reach.records()):
         ends = int.from_bytes(in_force[:2], 'big')
         given = frames(strong(ends), ends) if ends in ENDS else load(2)
         yield History(records.relay(in_force, good(2), holding(16, given)),
@@ -314,7 +322,8 @@ def counts() -> Iterator[History]:
 
 
 def fixed() -> Iterator[History]:
-    return chain(of_changes(), of_roots(), of_balanced(), faults_coming(),
-                 windows_fed(), extremes(), second_zone(), missing_passing(),
-                 several_missing(), missing_at_first(), calls_between(),
-                 refused_between(), order(), lengths(), stored(), counts())
+    return chain(of_changes(), of_roots(), of_balanced(), of_quadrilaterals(),
+                 faults_coming(), windows_fed(), extremes(), second_zone(),
+                 missing_passing(), several_missing(), missing_at_first(),
+                 calls_between(), refused_between(), order(), lengths(),
+                 stored(), counts())

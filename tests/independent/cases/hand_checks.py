@@ -1,5 +1,6 @@
 """The hand checks of document 01 that concern model/measuring.py, by their
-numbers, and those of loops in the second zone of document 02, CR 2, too.
+numbers, and those of loops in the second zone of document 02, CR 2, too; and a
+fault with resistance for CR 7, worked out here by hand.
 
 checks() puts them to that file. of_channel() and of_end_1() have the same as
 windows, so that they reach an archive too.
@@ -11,6 +12,7 @@ from cases.building import ENDS, ZERO, Case, exact_case, one_channel, pulse
 from model.measuring import (COSINES, Line, Loop, Phasor, asserts, by_loop,
                              channels, direction, loops, n_and_m, negative,
                              phasor, positive, reaches_pickup, zone_bits)
+from model.quadrilateral import by_phase
 from model.settings import OFF
 
 # D of P14, Z of P12; the rest as in the document's example record, but for
@@ -44,6 +46,41 @@ P14 = {(-499, 100): 1, (-500, 100): 0, (-499, 101): 0}
 EXAMPLE = ([Phasor(1000, 0), Phasor(-1000, -1732), Phasor(-1000, 1732)],
            [Phasor(0, -1000), ZERO, ZERO])
 
+# A fault with resistance, small enough to follow on paper. Z = j1 ohm and k = 0.
+# At end 1 Ia = 100 and no other current, so I = Ir = (100,0) in loop A and
+#   ZI = (0,1000)(100,0) = (0,100000).
+# The fault is at half of the replica and has 2 ohms:
+#   Va = 0.5 (0,100) + 2 (100,0) = (200,50).
+# The source behind the relay has j0.5 ohm in each sequence, so E = Va + j50 =
+# (200,100), and as b and c carry no current, Vb = a²E and Vc = aE, rounded.
+#
+#   n = Im[(200,50) (0,-100000)] = -20000000
+#   q = Im[(100,0) (0,-100000)]  = -10000000
+#   10 x 20000000 <= R x 10000000 from R = 20 on, which is 2 ohms.
+#   rZI - 1000000 V = (-200000000, 100000 r - 50000000), times Ir* = (100,0):
+#   Im = 10000000 r - 5000000000, which is above 0 from r = 501 on. At 500, half
+#   of the replica, it is 0, and that is not enough.
+#
+# 3V2 = (200,50) + (-187,123) + (-13,-223) = (0,-51), with what the rounding of
+# Vb and Vc leaves, and 3I2 = (100,0). T = -51 x 100000 is -510 |3I2|², so
+# direction is forward at zf = -509, not at -510. In B and C I = 0, so q = 0: no
+# bit. The circle misses it: 3V1 = (600,251), n = 200 x 600 + 50 x 251 = 132550,
+# m = 251 x 100000, and r m comes to 1000000 n only at r = 5281.
+RESISTIVE = ([Phasor(200, 50), Phasor(-13, -223), Phasor(-187, 123)],
+             [Phasor(100, 0), ZERO, ZERO])
+# By k, r and R: bits 8, 16 and 32 of byte 1. With k = 1, I of loop A is
+# (200,0): ZI, n and q are twice as large, R is still 20, and r is from 251 on.
+# In B and C I is now (100,0), so that ZI = (0,100000) and q = -10000000.
+#   B: n = 1300000, so R is from 2 on; Im = 10000000 r + 22300000000, any r.
+#   C: n = 18700000, so R is from 19 on; Im = 10000000 r - 12300000000, so r is
+#   from 1231 on.
+OF_RESISTIVE = {(0, 501, 20): 8, (0, 500, 20): 0, (0, 501, 19): 0,
+                (0, 2000, 1000): 8, (0, 501, 0): 0, (1000, 251, 20): 8 + 16,
+                (1000, 250, 20): 16, (1000, 251, 19): 16, (1000, 251, 2): 16,
+                (1000, 251, 1): 0, (1000, 1231, 19): 16 + 32,
+                (1000, 1230, 19): 16, (1000, 1231, 18): 16,
+                (1000, 1231, 20): 8 + 16 + 32, (1000, 1231, 0): 0}
+
 
 # ---- In measuring.py -------------------------------------------------------
 
@@ -65,6 +102,26 @@ def no_voltage():
     for r2 in (OFF, LINE.r, 2000):
         yield f'all V=0: no bit, second reach {r2}', zone_bits(
             LINE._replace(r2=r2), by_loop(LINE, voltages, currents)), (0, 0)
+
+
+def resistive():
+    """The fault with resistance: its sequence quantities, and reactance, n and
+    q of A, B and C."""
+    volts, amps = RESISTIVE
+    yield 'resistive, 3V1', positive(*volts), (600, 251)
+    yield 'resistive, 3V2', negative(*volts), (0, -51)
+    yield 'resistive, 3I2', negative(*amps), (100, 0)
+    for k, r, *three in (
+            (0, 500, (0, -20000000, -10000000), (0, 0, 0), (0, 0, 0)),
+            (0, 501, (10000000, -20000000, -10000000), (0, 0, 0), (0, 0, 0)),
+            (1000, 1231, (19620000000, -40000000, -20000000),
+             (34610000000, 1300000, -10000000),
+             (10000000, 18700000, -10000000))):
+        line = LINE._replace(k=Phasor(k, 0), r=r)
+        for (name, found), wanted in zip(
+                by_phase(line, volts, amps).items(), three):
+            if k or name == 'A':
+                yield f'resistive, {name}, k={k}, r={r}', found, wanted
 
 
 def checks():
@@ -92,6 +149,7 @@ def checks():
     yield 'example, 3V1', positive(*volts), (5000, 0)
     yield 'example, 3V2', negative(*volts), (-1000, 0)
     yield 'example, 3I2', negative(*amps), (0, -1000)
+    yield from resistive()
 
 
 # ---- Through windows -------------------------------------------------------
@@ -137,12 +195,28 @@ def worked_example() -> Iterator[tuple[Case, dict]]:
                           *EXAMPLE), {**of_zones(*bits), 'direction': 1})
 
 
+def with_resistance() -> Iterator[tuple[Case, dict]]:
+    """With all three bits also where direction is none, for each reason, and
+    reverse."""
+    tried = [(*given, -509, 300, 100, 1) for given in OF_RESISTIVE]
+    tried += [(1000, 1231, 20, *limits) for limits in (
+        (-510, 300, 100, 0), (-509, 300, 101, 0), (-600, -511, 100, 2))]
+    for k, r, R, zf, zr, pickup, towards in tried:
+        line = LINE._replace(k=Phasor(k, 0), r=r, zf=zf, zr=zr, pickup=pickup,
+                             R=R)
+        bits = OF_RESISTIVE[k, r, R] if towards == 1 else 0
+        yield (exact_case(f'resistive, k={k}, r={r}, R={R}, zf={zf}, zr={zr}, '
+                          f'pickup {pickup}', line, *RESISTIVE),
+               {'quadrilaterals': bits, 'direction': towards})
+
+
 def of_end_1() -> Iterator[tuple[Case, dict]]:
     """Each a case, and what the document gives for its decision."""
     yield exact_case('P7', LINE, [ZERO] * 3, [ZERO, (0, 1000), ZERO]), {}
     yield from p12_and_p13()
     yield from p14()
     yield from worked_example()
+    yield from with_resistance()
     for r2 in (OFF, 2000):
         yield exact_case('Vp=0', LINE._replace(r2=r2), [ZERO] * 3,
                          [(0, -1000), ZERO, (7, 9)]), of_zones(0, 0)

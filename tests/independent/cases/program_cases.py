@@ -3,14 +3,15 @@ print, so that a name cannot lie: check() holds them against model/program.py.
 STORED names those that driving/expected.py stores. All of them are run by
 driving/compare_program.py.
 
-The record is the document's, but for what is named. The waves have phasors of
-whole numbers, so that no sample is close to a half and every machine rounds
-them alike.
+The record is the document's, but for what is named.
 """
 from typing import Iterator, NamedTuple
 
-from cases.building import (ENDS, HIGH, LARGEST, LINE, ZERO, as_data, exact,
-                            of_phases, turned, wave, window, without)
+from cases.building import (ENDS, HIGH, LARGEST, LINE, as_data, exact, turned,
+                            window, without)
+from cases.program_windows import (AG, FAULTS, HEALTHY, INTERNAL, LOAD, NONE,
+                                   by_end, fed, opposite, quiet, resistive,
+                                   reversed_, through)
 from cases.records import ANOTHER, SAMPLE, flip, put
 from cases.trying import QUIET
 from cases.windows import extreme
@@ -22,70 +23,6 @@ class Case(NamedTuple):
     name: str
     data: bytes
     prints: str
-
-
-Three = list[tuple[int, int]]   # phasors of a, b, c
-
-# ---- Windows ---------------------------------------------------------------
-
-def waves(phasors: Three) -> list[list[int]]:
-    return [wave(complex(re, im)) for re, im in phasors]
-
-
-def by_end(volts: Three, amps: list[Three]) -> list[int]:
-    """Voltages, and the currents of each end."""
-    return of_phases(waves(volts), list(zip(*map(waves, amps), strict=True)))
-
-
-def opposite(phasors: Three) -> Three:
-    return [(-re, -im) for re, im in phasors]
-
-
-NONE = [ZERO] * 3
-INTERNAL = (120, 160)   # into the line at an end
-
-
-def through(volts: Three, amps: Three, ends: int = 2) -> list[int]:
-    """What comes in at end 1 goes out at the last end."""
-    return by_end(volts, [amps, *[NONE] * (ends - 2), opposite(amps)])
-
-
-def fed(volts: Three, amps: Three, ends: int = 2) -> list[int]:
-    """Every end feeds a fault alike."""
-    return by_end(volts, [amps] * ends)
-
-
-def quiet(ends: int = 2) -> list[int]:
-    return [0] * length(ends)
-
-
-# A balanced line with load on it.
-HEALTHY = [(2000, 0), (-1000, -1732), (-1000, 1732)]
-LOAD = [(200, 0), (-100, -173), (-100, 173)]
-
-
-def ground_fault(phase: int) -> tuple[Three, Three]:
-    """V and I of a fault in front, at 600 thousandths of the replica: with
-    k of 667 thousandths I of its loop is 1667 counts."""
-    return (turned(phase, (1000, 0), *HEALTHY[1:]),
-            turned(phase, (0, -1000)))
-
-
-def phase_fault(phase: int) -> tuple[Three, Three]:
-    """The same between the two other phases: 600 counts of V to 1000 of I."""
-    return (turned(phase, (2000, 0), (-1000, -300), (-1000, 300)),
-            turned(phase, ZERO, (-500, 0), (500, 0)))
-
-
-AG = ground_fault(0)
-# Each loop with a fault that it alone sees at reach 850.
-FAULTS = {'ag': AG, 'bg': ground_fault(1), 'cg': ground_fault(2),
-          'ab': phase_fault(2), 'bc': phase_fault(0), 'ca': phase_fault(1)}
-
-
-def reversed_(fault: tuple[Three, Three]) -> tuple[Three, Three]:
-    volts, amps = fault
-    return volts, opposite(amps)
 
 
 # ---- Inputs, and what is printed for them ----------------------------------
@@ -128,6 +65,7 @@ def proposals() -> Iterator[Case]:
     yield case('squares', put(SAMPLE, 18, 998), 18)
     yield case('limits', put(SAMPLE, 20, 300), 22)
     yield case('second_reach', put(SAMPLE, 26, 849), 26)
+    yield case('resistive_reach', put(SAMPLE, 28, 1001), 28)
 
 
 def confirmations() -> Iterator[Case]:
@@ -231,6 +169,23 @@ def balanced() -> Case:
             decided(1, 0, 63, 0), NOTHING, decided(1, 7, 63, 0)))
 
 
+def quadrilaterals() -> Iterator[Case]:
+    """Out of the circle's reach. R is just enough on each phase, then too
+    little; then the fault is behind, and then fed from both ends."""
+    windows = [*(through(*resistive(phase, 1000)) for phase in range(3)),
+               through(*resistive(0, 1001)),
+               through(*reversed_(resistive(0, 1000))),
+               fed(*resistive(0, 1000))]
+    for name, R, bits, beyond in (
+            ('quadrilateral', 10, (8, 16, 32), 0),
+            ('quadrilateral_wide', 18, (56, 56, 56), 56),
+            ('quadrilateral_off', 0, (0, 0, 0), 0)):
+        lines = [decided(int(bit > 0), bit, 0, 1) for bit in (*bits, beyond)]
+        yield Case(name, entered(*windows, record=put(put(
+            SAMPLE, 10, 700), 28, R)), printed(*lines, decided(0, 0, 0, 2),
+                                               decided(1, 1 + bits[0], 0, 1)))
+
+
 # The paper mill: 100 into the line at end 1, 40 out of it at end 2. By slope,
 # whether it trips.
 OUTFEED = window([*[QUIET] * 3, exact((100, 0)), QUIET, QUIET,
@@ -325,7 +280,8 @@ def cuts() -> Iterator[Case]:
 
 ONE_BY_ONE = [*entries(), *missing(), *other_lengths(), *of_loops(),
               *directions(), *phases(), *trips(), second_zone(), balanced(),
-              *paper_mill(), *more_ends(), many_windows(), extremes()]
+              *quadrilaterals(), *paper_mill(), *more_ends(), many_windows(),
+              extremes()]
 CASES = [*ONE_BY_ONE, *cuts()]
 INPUTS = {case.name: case.data for case in CASES}
 STORED = [*(case.name for case in ONE_BY_ONE), *NAMED_CUTS.values()]

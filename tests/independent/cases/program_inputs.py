@@ -9,7 +9,8 @@ from collections import deque
 from itertools import chain, islice
 from typing import Callable, Iterator
 
-from cases import chosen, program_cases, records, second_reach
+from cases import (chosen, program_cases, quadrilateral, records,
+                   resistive_reach, second_reach)
 from cases.building import ENDS, as_data, without
 from model.differential import slope
 from model.measuring import MISSING, length
@@ -31,12 +32,19 @@ def refused_entries() -> Iterator[Input]:
                records.SAMPLE + records.flip(records.SAMPLE, place, 1))
 
 
-def second_reaches() -> Iterator[Input]:
-    """Each edge of the second reach, with a window that is reached if the
-    entries are good."""
-    for record in second_reach.edges((1, 850, 2000)):
-        yield (f'second reach, {record.hex()}',
+def both_reaches() -> Iterator[Input]:
+    """Each edge of the second reach and of R, with a window that is reached if
+    the entries are good."""
+    for record in chain(second_reach.edges((1, 850, 2000)),
+                        resistive_reach.edges()):
+        yield (f'second reach and R, {record.hex()}',
                2 * record + as_data([0] * length(2)))
+
+
+def each_diff() -> Iterator[Input]:
+    """Each number that there is after diff."""
+    for label, record, numbers in quadrilateral.each_byte():
+        yield label, 2 * record + as_data(numbers)
 
 
 def refused_windows() -> Iterator[Input]:
@@ -59,7 +67,8 @@ def fixed() -> Iterator[Input]:
     yield from program_cases.INPUTS.items()
     yield from program_cases.EXAMPLES.items()
     yield from refused_entries()
-    yield from second_reaches()
+    yield from both_reaches()
+    yield from each_diff()
     yield from refused_windows()
     yield many()
 

@@ -2,7 +2,7 @@
 slices are filled with."""
 from itertools import combinations
 
-from cases.building import any_second
+from cases.building import any_resistive, any_second
 from model.settings import EMPTY, FIELDS, NOTHING, RECORD, SPARE, SQUARES, STATE
 
 # The record of "Window program", and the same with slope 50.
@@ -68,9 +68,9 @@ def spare_bytes():
 
 def two_faults():
     """Every pair of faults, each with its bytes: the one with the first offset must be reported. Every fault also with a second
-    reach that is good."""
+    reach and a resistive reach that are good."""
     faults = [{field.at: number} for field in FIELDS for number in (field.low - 1, field.high + 1)]
-    faults += [{16: 1000, 18: 1000}, {20: 300, 22: 300}, {20: 20000, 22: -20000}, {26: 1}, {26: 849}, {26: 1200}]
+    faults += [{16: 1000, 18: 1000}, {20: 300, 22: 300}, {20: 20000, 22: -20000}, {26: 1}, {26: 849}, {26: 1200}, {28: 200}]
     faults += [{at - at % 2: 1 if at % 2 else 256} for at in SPARE]
     for one, two in combinations(faults, 2):
         record = SAMPLE
@@ -88,7 +88,8 @@ def noise(rng, length):
 
 
 def good(rng):
-    """A record that documents 01 and 02 allow, any number of each range as likely as another, the second reach apart."""
+    """A record that documents 01 and 02 allow, any number of each range as likely as another, the second reach and the resistive
+    reach apart."""
     record = NOTHING
     for field in FIELDS:
         record = put(record, field.at, rng.randint(field.low, field.high))
@@ -96,7 +97,7 @@ def good(rng):
     im = rng.choice(ANGLES[re])
     zf, zr = sorted(rng.sample(range(-20000, 20001), 2))
     second = any_second(rng, int.from_bytes(record[10:12], 'big'))
-    for at, number in ((16, re), (18, im), (20, zf), (22, zr), (26, second)):
+    for at, number in ((16, re), (18, im), (20, zf), (22, zr), (26, second), (28, any_resistive(rng))):
         record = put(record, at, number)
     return record
 

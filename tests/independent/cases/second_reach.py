@@ -1,6 +1,7 @@
 """Settings for the second reach of document 02, CR 2: records at each edge of
 it, and confirmations that differ in it."""
-from typing import Iterator
+from itertools import product
+from typing import Iterable, Iterator
 
 from cases.records import ANOTHER, ROOM, SAMPLE, flip, put, relay
 from cases.steps import History
@@ -23,27 +24,27 @@ def edges(firsts=FIRSTS) -> Iterator[bytes]:
             yield put(put(SAMPLE, 10, first), AT, second)
 
 
-def bits() -> Iterator[bytes]:
-    """Each bit of bytes 26 and 27 alone, and changed in a good record."""
-    for record in (SAMPLE, put(SAMPLE, 10, 1), ON):
-        for at in (AT, AT + 1):
-            yield from (flip(record, at, 1 << bit) for bit in range(8))
+def bits(at: int, given: Iterable[bytes]) -> Iterator[bytes]:
+    """Each bit of the two bytes there, changed in these records."""
+    for record, place in product(given, (at, at + 1)):
+        yield from (flip(record, place, 1 << bit) for bit in range(8))
 
 
 def records() -> Iterator[bytes]:
     yield from edges()
-    yield from bits()
+    yield from bits(AT, (SAMPLE, put(SAMPLE, 10, 1), ON))
 
 
-def confirmations() -> Iterator[History]:
-    """One bit of byte 26 or 27, or both bytes, other than proposed, with the
-    second zone on and off. Then the right record as a third entry, and what is
+def confirmations(at: int = AT, given: Iterable[bytes] = (SAMPLE, ON),
+                  numbers: Iterable[int] = (0, 1201, 1456)
+                  ) -> Iterator[History]:
+    """One bit of the two bytes there, or both bytes, other than proposed, with
+    the reach on and off. Then the right record as a third entry, and what is
     in force."""
-    for record in (SAMPLE, ON):
-        entries = [flip(record, at, 1 << bit)
-                   for at in (AT, AT + 1) for bit in range(8)]
-        entries += [put(record, AT, number) for number in (0, 1201, 1456)]
+    for record in given:
+        entries = [*bits(at, [record]),
+                   *(put(record, at, number) for number in numbers)]
         for entry in entries:
             yield History(relay(ANOTHER), [
                 ('propose', record), ('confirm', entry), ('confirm', record),
-                ('read_back', ROOM)], 'second reach confirmed otherwise')
+                ('read_back', ROOM)], f'reach at {at} confirmed otherwise')

@@ -2,7 +2,7 @@
 random ones."""
 from itertools import chain, combinations
 
-from cases import second_reach
+from cases import resistive_reach, second_reach
 from cases.records import (ANOTHER, FRESH, LENGTHS, ROOM, SAMPLE, SHORT_LENGTHS, angle_edges, any_record, cut_or_filled, field_edges,
                            flip, limit_edges, put, relay, spare_bytes, two_faults)
 from cases.steps import History
@@ -47,9 +47,11 @@ def stored_records():
 
 
 def fixed():
-    for record in chain(field_edges(), angle_edges(), limit_edges(), spare_bytes(), two_faults(), second_reach.records()):
+    for record in chain(field_edges(), angle_edges(), limit_edges(), spare_bytes(), two_faults(), second_reach.records(),
+                        resistive_reach.records()):
         yield from each_way(record)
-    yield from chain(damaged_confirmations(), second_reach.confirmations(), lengths(), stored_records())
+    yield from chain(damaged_confirmations(), second_reach.confirmations(), resistive_reach.confirmations(), lengths(),
+                     stored_records())
 
 
 # Random calls

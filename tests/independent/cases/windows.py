@@ -10,9 +10,9 @@ import random
 from typing import Iterator
 
 from cases.building import (ENDS, HIGH, LARGEST, LINE, LOW, ZERO, Case,
-                            any_line, any_second, corners, exact_case, largest,
-                            one_channel, pulse, record, turned, wave, window,
-                            without)
+                            any_line, any_resistive, any_second, corners,
+                            exact_case, largest, one_channel, pulse, record,
+                            turned, wave, window, without)
 from cases.faults import FAULTS, Place, volts_and_amps
 from model.measuring import (COSINES, Line, Phasor, asserts, by_loop, channels,
                              direction, length, negative, phasors,
@@ -210,7 +210,8 @@ def any_grid(rng: random.Random) -> Iterator[Case]:
     line = Line(ends=rng.choice(ENDS), Z=Phasor(0, 1000), r=r,
                 k=rng.choice([Phasor(0, 0), Phasor(500, 500)]),
                 D=Phasor(0, 1000), zf=zf, zr=zr, pickup=size,
-                r2=rng.choice([OFF, r, max(r, 1000), 2000]))
+                r2=rng.choice([OFF, r, max(r, 1000), 2000]),
+                R=rng.choice([OFF, OFF, OFF, 1, 10, HIGH[28]]))
     yield exact_case('grid', line, rng.choices(grid, k=3),
                      rng.choices(grid, k=3))
 
@@ -256,7 +257,7 @@ def fault_line(rng: random.Random) -> Line:
                 D=Phasor(round(d.real), round(d.imag)),
                 zf=zf, zr=zf + rng.choice([1, 100, 2000]),
                 pickup=rng.choice([20, 100, rng.randint(1, 3000)]),
-                r2=any_second(rng, r))
+                r2=any_second(rng, r), R=any_resistive(rng))
 
 
 def any_fault(rng: random.Random) -> Iterator[Case]:
@@ -270,7 +271,8 @@ def any_fault(rng: random.Random) -> Iterator[Case]:
         distance=rng.choice([0, 0.1, 0.84, 0.86, rng.uniform(0, 3)]),
         volts=polar(rng.uniform(500, 20000), rng.uniform(0, 360)),
         source=polar(rng.uniform(0.1, 10), rng.uniform(60, 90)),
-        load=polar(rng.uniform(0, 500), rng.uniform(-30, 30)))
+        load=polar(rng.uniform(0, 500), rng.uniform(-30, 30)),
+        resistance=rng.choice([0, 0, rng.uniform(0, 30)]))
     yield fault_case(line, place, rng.choice([-1 / (line.ends - 1), 0.5, 0]))
 
 

@@ -13,6 +13,7 @@ from cases.building import ENDS, HIGH, LOW
 from driving.calls import Made, at_slope_1, measured, window
 from driving.not_3i2 import OTHERS, other_numbers
 from driving.seen import against, all_of
+from model.decision import PHASE_BITS
 from model.differential import slope
 from model.measuring import (BITS, FORWARD, GROUND_LOOPS, NONE, PHASE_LOOPS, T,
                              loop_bits, squared)
@@ -108,7 +109,8 @@ def not_all(result: dict) -> Iterator[str]:
 
 def of_decision(result: dict, decision: bytes,
                 differential: int) -> Iterator[str]:
-    trip, phases, loops, towards = decision[:4]
+    trip, byte_1, loops, towards = decision[:4]
+    phases = byte_1 & PHASE_BITS
     side = against(squared(result['i2']), result['line'].pickup**2)
     which = named(loops)
     yield rule(side, which, towards, phases > 0, trip)

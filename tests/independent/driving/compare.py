@@ -1,14 +1,14 @@
 #!/usr/bin/env python3
 """Compares the archive with model/settings.py, model/decision.py and model/feeding.py, call by call: what came back, the state, and
 every byte of every slice and around it. What decide says is held against demand 3 too, what feed says against what decide says, and
-what both say of a window at several slopes together.
+what both say of a window at several slopes, and at several resistive reaches, together.
 
 compare.py [--count N] [--feeds M] [--seed S] [--archive PATH]
 
 It makes N calls at least of the other four functions: all fixed cases, then random ones. Then come M feeds at least, in histories
 with other calls between them, fixed and random too, and an eighth as many of which each is held against a decide. The first difference
 ends it, and so do a hand check of document 01 that the model does not meet, and at the end an answer of documents 01 and 02, a bit of
-a decision, a side of a rule, a kind of root or a slope of change that was not seen.
+a decision, a side of a rule, a kind of root, a slope of change or a side of a quadrilateral that was not seen.
 """
 import random
 import sys
@@ -19,6 +19,7 @@ sys.dont_write_bytecode = True
 sys.path[0] = str(Path(__file__).resolve().parents[1])  # model, cases, driving
 from cases import decision_checks, feeding_cases, feeding_runs, hand_checks, histories  # noqa: E402
 from driving import archive, calls, demand3  # noqa: E402
+from driving.each_resistance import EachResistance  # noqa: E402
 from driving.each_slope import EachSlope  # noqa: E402
 from driving.fed_tally import FedTally  # noqa: E402
 from driving.newest import Newest  # noqa: E402
@@ -56,24 +57,28 @@ def main():
     by_hand = [*hand_checks.checks(), *decision_checks.checks()]
     archive.stop_at([f'{what}: the model gives {got}, document 01 {wanted}' for what, got, wanted in by_hand if got != wanted])
     archive.build(words.archive)
-    tally, fed_tally, newest, each_slope = Tally(), FedTally(), Newest(), EachSlope()
+    tally, fed_tally, newest, each_slope, each_resistance = Tally(), FedTally(), Newest(), EachSlope(), EachResistance()
     for one, got in of_four(words.count, words.seed):
         tally.add(one)
         demand3.hold(one, got, MS)
         each_slope.hold(one, got)
+        each_resistance.hold(one, got)
     for one, got in of_feed(feeds, words.seed):
         tally.add(one)
         fed_tally.add(one)
         each_slope.hold(one, got)
+        each_resistance.hold(one, got)
     for one, got in compared(feeding_runs.beside_decide(random.Random(words.seed)), feeds // 8, 'feed'):
         tally.add(one)
         newest.hold(one, got)
         each_slope.hold(one, got)
-    archive.stop_at([*tally.report(), *fed_tally.report(), *each_slope.blind()])
+        each_resistance.hold(one, got)
+    archive.stop_at([*tally.report(), *fed_tally.report(), *each_slope.blind(), *each_resistance.blind()])
     by_call = ', '.join(f'{number} {call}' for call, number in tally.calls.items())
     total = sum(tally.calls.values())
     print(f'independent comparison: {len(by_hand)} hand checks, {total} calls agree ({by_call}), '
-          f'{newest.decided} feeds agree with decide, {each_slope.windows} windows at every slope, seed {words.seed}')
+          f'{newest.decided} feeds agree with decide, {each_slope.windows} windows at every slope, '
+          f'{each_resistance.windows} at many R and {each_resistance.at_every} of them at every R, seed {words.seed}')
 
 
 if __name__ == '__main__':

@@ -22,7 +22,7 @@ from driving.event_tally import EventTally  # noqa: E402
 from driving.round_trips import RoundTrips  # noqa: E402
 
 BATCH = 10000
-CALLS = 64330   # if nothing is said
+CALLS = 65364   # if nothing is said
 FILES = 100     # cut in two ways
 TRIPS = 30      # by chance, beside the fixed ones
 # Of the other calls by chance, how many of ten are runs, damaged readers, and records that are written.

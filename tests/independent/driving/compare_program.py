@@ -30,6 +30,7 @@ sys.path[0] = str(Path(__file__).resolve().parents[1])  # model, cases, driving
 from cases import program_cases, program_inputs  # noqa: E402
 from cases.building import ENDS  # noqa: E402
 from driving import archive, reach_seen  # noqa: E402
+from model.decision import PHASE_BITS  # noqa: E402
 from model.measuring import BITS, length  # noqa: E402
 from model.program import run  # noqa: E402
 from model.settings import FAULTS, RECORD  # noqa: E402
@@ -122,7 +123,7 @@ def difference(found: Ran, wanted: bytes) -> str:
 
 # ---- What was seen ---------------------------------------------------------
 
-DECIDED = re.compile(r'window (\d+) trip (\d) diff (\d) mho (\d+) dir (\d)')
+DECIDED = re.compile(r'window (\d+) trip (\d) diff (\d+) mho (\d+) dir (\d)')
 REFUSED = re.compile(r'window (\d+) (refused \d+ at \d+)')
 
 
@@ -135,9 +136,12 @@ def shown(printed: bytes) -> Iterator[str]:
         found = DECIDED.fullmatch(line)
         if found:
             number, trip, diff, mho, towards = map(int, found.groups())
+            phases = diff & PHASE_BITS
             yield from (f'trip {trip}', f'diff {diff}', f'dir {towards}')
             if trip and not diff and not towards:
                 yield 'trip by a balanced fault'
+            if trip and not phases and not mho and towards:
+                yield f'trip by a quadrilateral alone, diff {diff}'
             yield from (f'mho {name}: {mho & bit > 0}'
                         for name, bit in BITS.items())
             yield f'number of {len(str(number))} digits'
@@ -156,7 +160,9 @@ def wanted() -> list[str]:
         'window refused 2 at 0',
         *(f'window refused 4 at {place}' for place in range(length(ENDS[-1]))),
         'trip 0', 'trip 1', 'trip by a balanced fault',
-        *(f'diff {bits}' for bits in range(8)),
+        *(f'trip by a quadrilateral alone, diff {bits}'
+          for bits in range(8, 64, 8)),
+        *(f'diff {bits}' for bits in range(64)),
         *(f'mho {name}: {either}' for name in BITS
           for either in (False, True)),
         'dir 0', 'dir 1', 'dir 2',
@@ -167,7 +173,7 @@ def wanted() -> list[str]:
 def report(seen: Counter) -> None:
     for what in ('refused 5', 'refused 6', 'refused 8', 'window refused 2',
                  'window refused 4', 'nothing', 'trip', 'diff', 'mho', 'dir',
-                 'number of', 'second reach'):
+                 'number of', 'second reach', 'resistive reach'):
         kinds = {kind: seen[kind] for kind in seen if what in kind}
         print(f'{what}: {sum(kinds.values())}, {len(kinds)} kinds')
     archive.stop_at([f'{what}: never seen' for what in wanted()

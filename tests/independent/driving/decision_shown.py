@@ -6,8 +6,9 @@ from typing import Iterator
 
 from driving import seen, sides
 from driving.calls import Made, at_slope_1, measured, phases
+from model.decision import PHASE_BITS
 from model.differential import slope
-from model.measuring import BITS, direction, loop_bits
+from model.measuring import BITS, FORWARD, direction, loop_bits
 from model.settings import RECORD
 
 LIMITS = ('zf', 'zr', 'pickup')
@@ -33,10 +34,10 @@ def close_direction(result: dict) -> Iterator[str]:
             yield f'another direction with {name} changed by {step}'
 
 
-def why(trip: int, phases: bool, loops: bool, second: bool,
-        towards: int) -> str:
-    return (f'trip {trip}: phases {phases}, loops {loops}, second zone '
-            f'{second}, direction {towards}')
+def why(trip: int, phases: bool, quadrilaterals: bool, loops: bool,
+        second: bool, towards: int) -> str:
+    return (f'trip {trip}: phases {phases}, quadrilaterals {quadrilaterals}, '
+            f'loops {loops}, second zone {second}, direction {towards}')
 
 
 # ---- Of a call that decide answered with 0 or 4 ----------------------------
@@ -56,8 +57,9 @@ def of_line(made: Made) -> Iterator[str]:
     yield from at_any_slope(at_slope_1(made.state[:RECORD]),
                             made.step.samples)
     if made.wanted.number == 0:
-        trip, operating, loops, towards, second = made.wanted.other[:5]
-        yield why(trip, operating > 0, loops > 0, second > 0, towards)
+        trip, byte_1, loops, towards, second = made.wanted.other[:5]
+        yield why(trip, byte_1 & PHASE_BITS > 0, byte_1 & ~PHASE_BITS > 0,
+                  loops > 0, second > 0, towards)
 
 
 def of_currents(made: Made) -> Iterator[str]:
@@ -72,10 +74,12 @@ def of_currents(made: Made) -> Iterator[str]:
 
 def wanted_of_line() -> list[str]:
     return [
-        *(why(int(phases or loops and towards == 1), phases, loops, second,
-              towards)
+        *(why(int(phases or loops and towards == FORWARD), phases, False,
+              loops, second, towards)
           for phases, loops, second, towards in product(
               (True, False), (True, False), (True, False), range(3))),
+        *(why(1, phases, True, loops, second, FORWARD)
+          for phases, loops, second in product((True, False), repeat=3)),
         *(f'{name}: another bit with {setting} changed by {step}'
           for name, setting, step in product(BITS, seen.ZONES, (-1, 1))),
         *(f'another direction with {name} changed by {step}'

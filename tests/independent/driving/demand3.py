@@ -24,7 +24,7 @@ from typing import NamedTuple
 sys.dont_write_bytecode = True
 sys.path[0] = str(Path(__file__).resolve().parents[1])  # model, cases, driving
 from cases import chosen, currents, equalities  # noqa: E402
-from cases.building import as_data  # noqa: E402
+from cases.building import HIGH, LINE, as_data  # noqa: E402
 from cases.hunting import first_band, second_band  # noqa: E402
 from cases.records import ROOM, relay  # noqa: E402
 from cases.steps import History  # noqa: E402
@@ -36,6 +36,7 @@ from model.differential import (F, H, L, first_half,  # noqa: E402
 from model.settings import RECORD  # noqa: E402
 
 BATCH = 5000
+WITH_R = LINE._replace(R=HIGH[28])
 MS = (1, 2, 3, 10, 1000)
 LARGEST_M = 10**6
 TOO_LITTLE = 131072
@@ -152,8 +153,9 @@ def hold(made, got, ms):
 # ---- The search ------------------------------------------------------------
 
 def each(found):
-    """Each window with every record that is tried on it."""
-    for label, record, window in chosen.tried(found):
+    """Each window with every record that is tried on it. R is on, so that byte
+    1 has other bits too."""
+    for label, record, window in chosen.tried(found, WITH_R):
         yield History(relay(record), [('decide', ROOM, as_data(window))],
                       label)
 

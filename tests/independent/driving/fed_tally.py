@@ -5,7 +5,7 @@ from collections import Counter
 from itertools import product
 
 from cases.building import ENDS, as_data
-from driving.reach_seen import zone
+from driving.reach_seen import RESISTIVE, SECOND, on_or_off
 from driving.tally import all_bits, bits
 from model.feeding import frame_size, frames_held, newest
 from model.measuring import FRAMES, MISSING, channels
@@ -65,7 +65,7 @@ def of_feed(made, ends):
     elif number in (9, 3):
         yield f'answer {number}, count {held(made.state)}'
     if number == 0:
-        yield f'second zone {zone(made.state[IN_FORCE])}'
+        yield from (f'{reach.name} {on_or_off(reach, made.state[IN_FORCE])}' for reach in (SECOND, RESISTIVE))
         yield from bits(made.wanted.other)
 
 
@@ -96,7 +96,8 @@ def wanted():
     yield from (f'kept, count {count}' for count in COUNTS)
     yield from (f'answer {number}, count {count}' for number, count in product((9, 3), COUNTS))
     yield from (f'answer {number}, count {count}' for number, count in product((0, 4), COUNTS[FRAMES - 1:]))
-    yield from ('second zone off', 'second zone on', *all_bits())
+    yield from (f'{reach.name} {state}' for reach in (SECOND, RESISTIVE) for state in ('off', 'on'))
+    yield from all_bits()
     yield from ('after 4: none missing any more', 'after 4: its place falls by a frame', 'after 4: the next missing one is named')
     yield from (f'a confirmation of {kind} empties what was fed' for kind in CONFIRMED)
     yield from (f'{call} {number} leaves what was fed' for call, numbers in LEAVING.items() for number in numbers)

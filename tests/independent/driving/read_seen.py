@@ -8,9 +8,11 @@ from cases.building import ENDS
 from cases.event_files import GROUPS, LAST, READER, STATUS, groups, size
 from cases.records import cut_or_filled
 from driving.fed_tally import has_missing
+from model.decision import PHASE_BITS
 from model.events import ended
 from model.feeding import frames_held, newest
 from model.measuring import FRAMES, channels
+from model.quadrilateral import QUADRILATERALS
 from model.settings import IN_FORCE, STATE, absent
 
 # "Checked in that order"; "they stand before CR 1's". 17 is before all others.
@@ -133,7 +135,11 @@ def shown(made):
         yield f'{ends} ends, {has_status} status channels: the last piece begins after {parts.count} bytes'
         yield from of_record(parts)
     if answer == 'decided':
-        yield f'{ends} ends: decided, trip {made.wanted.other[0]}'
+        trip, byte_1, circles = made.wanted.other[:3]
+        yield f'{ends} ends: decided, trip {trip}'
+        yield from (f'{ends} ends: decided, quadrilateral {name}' for name, bit in QUADRILATERALS.items() if byte_1 & bit)
+        if trip and not byte_1 & PHASE_BITS and not circles and byte_1:
+            yield f'{ends} ends: decided, a quadrilateral alone trips'
         if len(set(made.wanted.other[5:8])) == 3:
             yield f'{ends} ends: decided, three different c'
     yield from of_number(parts)
@@ -152,7 +158,8 @@ def wanted():
                     for count in GROUPS for at in range(1, size(ends, 16 * count)))
         yield from (f'{ends} ends, {has_status} status channels: the last piece begins after {at} bytes'
                     for has_status, status in (('without', 0), ('with', 1)) for at in range(size(ends, status)))
-        yield from (f'{ends} ends: decided, {what}' for what in ('trip 0', 'trip 1', 'three different c'))
+        yield from (f'{ends} ends: decided, {what}' for what in ('trip 0', 'trip 1', 'three different c', *(
+            f'quadrilateral {name}' for name in QUADRILATERALS), 'a quadrilateral alone trips'))
         yield from (f'{ends} ends: channel {at} missing' for at in range(channels(ends)))
     yield from (f'{count} groups: {answer}' for count, answer in product(GROUPS, ('taken', 'decided', '12', '1', '9', '3', '10', '4')))
     yield from (f'number {name}' for name in WRONG)

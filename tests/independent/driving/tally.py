@@ -1,20 +1,22 @@
 """What the compared calls gave, and what all of them together should have given: every answer that documents 01 and 02 allow, every
-bit of a decision both ways, every side of a rule that a decision can show, every edge of the second reach by every call, and roots of
-every size and kind, all sides of a balanced fault and every slope of change by decide and by feed. What feeds should show beside is in
-fed_tally.py."""
+bit of a decision both ways, every side of a rule that a decision can show, every edge of the second reach and of R by every call, and
+roots of every size and kind, all sides of a balanced fault and of a quadrilateral and every slope of change by decide and by feed. What
+feeds should show beside is in fed_tally.py."""
 from collections import Counter
 from itertools import product
 
 from cases.building import ENDS
-from driving import balanced_seen, changes_seen, decision_shown, reach_seen, roots_seen
+from driving import balanced_seen, changes_seen, decision_shown, quadrilateral_seen, reach_seen, roots_seen
 from model.measuring import BITS, channels, length, line
+from model.quadrilateral import QUADRILATERALS
 from model.settings import ANSWERS, RECORD
 
 # The numbers beside 4, each at place 0. 4 has the places of a window.
 AT_0 = {'decide': (0, 1, 2, 3, 17), 'feed': (0, 1, 3, 9, 10, 17)}
 PHASES = {'a': 1, 'b': 2, 'c': 4}
 # What decide and feed should each show.
-OF_BOTH = {'roots by size and kind': roots_seen, 'sides of a balanced fault': balanced_seen, 'slopes of change': changes_seen}
+OF_BOTH = {'roots by size and kind': roots_seen, 'sides of a balanced fault': balanced_seen, 'slopes of change': changes_seen,
+           'sides of a quadrilateral': quadrilateral_seen}
 
 
 def of_missing(call, ends, place):
@@ -44,10 +46,11 @@ def missing(call, ends):
 
 def bits(decision):
     """Bytes 0 to 4 of a decision."""
-    trip, phases, loops, direction, second = decision[:5]
+    trip, byte_1, loops, direction, second = decision[:5]
     yield f'trip {trip}'
     yield f'direction {direction}'
-    yield from (f'phase {name}: {phases & bit > 0}' for name, bit in PHASES.items())
+    yield from (f'phase {name}: {byte_1 & bit > 0}' for name, bit in PHASES.items())
+    yield from (f'quadrilateral {name}: {byte_1 & bit > 0}' for name, bit in QUADRILATERALS.items())
     yield from (f'loop {name}: {loops & bit > 0}, in the second zone {second & bit > 0}' for name, bit in BITS.items())
     yield f'second zone {second > 0}, trip {trip}, direction {direction}'
 
@@ -55,6 +58,7 @@ def bits(decision):
 def all_bits():
     yield from ('trip 0', 'trip 1', 'direction 0', 'direction 1', 'direction 2')
     yield from (f'phase {name}: {either}' for name, either in product(PHASES, (False, True)))
+    yield from (f'quadrilateral {name}: {either}' for name, either in product(QUADRILATERALS, (False, True)))
     yield from (f'loop {name}: {first}, in the second zone {second}'
                 for name, first, second in product(BITS, (False, True), (False, True)))
     yield from (f'second zone {either}, trip {trip}, direction {direction}'
@@ -67,7 +71,7 @@ class Tally:
         # What no decide has shown yet, and how many decides were looked at until all was shown.
         self.sides = [(shown, set(wanted())) for shown, wanted in decision_shown.PARTS]
         self.looked = 0
-        # The edges of the second reach that no call has shown yet.
+        # The edges of the second reach and of R that no call has shown yet.
         self.reaches = {call: set(reach_seen.wanted(call)) for call in (*ANSWERS, *AT_0)}
         # What no decide has shown yet, and what no feed has.
         self.of_both = {part: {call: set(part.wanted(call)) for call in AT_0} for part in OF_BOTH.values()}
@@ -105,7 +109,7 @@ class Tally:
         sides = sum(len(wanted()) for _, wanted in decision_shown.PARTS)
         unseen = set().union(*(unseen for _, unseen in self.sides))
         print(f'sides of the rules: {sides - len(unseen)} of {sides}, seen in the first {self.looked} decides')
-        print('edges of the second reach: ' + ', '.join(
+        print('edges of the second reach and of R: ' + ', '.join(
             f'{call} {len([*reach_seen.wanted(call)]) - len(unseen)}' for call, unseen in self.reaches.items()))
         for title, part in OF_BOTH.items():
             print(f'{title}: ' + ', '.join(

@@ -1,6 +1,6 @@
 """The rules of document 01 for decide: what it refuses, in its order, and the
-decision record, with byte 4, the trip, and bytes 5 to 7 of document 02, CR 2,
-CR 4 and CR 6.
+decision record, with byte 4, the trip, bytes 5 to 7, and bits 8, 16 and 32 of
+byte 1 of document 02, CR 2, CR 4, CR 6 and CR 7.
 
 Comments in quotes are the document's own sentences.
 """
@@ -13,16 +13,20 @@ from model.differential import (by_phase, phases_operating,
 from model.measuring import (BITS, FORWARD, PHASE_LOOPS, by_loop, channel,
                              direction, first_missing, length, line, negative,
                              numbers, phasor, reaches_pickup, zone_bits)
+from model.quadrilateral import quadrilateral_bits
 from model.settings import IN_FORCE, STATE, absent
 
 # ---- Decision record -------------------------------------------------------
 
 DECISION = 32   # its bytes
-# Bytes 0 to 3; CR 2: "Decision byte 4 becomes its six loop bits"; CR 6: "Each
-# phase gets a number c from 0 to 99, in decision bytes 5, 6 and 7"; "U of a,
-# b, c, 32-bit big-endian"; "floor of the root of 4096 s, for a, b, c, 32-bit".
+# Bytes 0 to 3, byte 1 with what CR 7 adds: "Bits 8, 16 and 32 of decision byte
+# 1 report A, B and C"; CR 2: "Decision byte 4 becomes its six loop bits"; CR 6:
+# "Each phase gets a number c from 0 to 99, in decision bytes 5, 6 and 7"; "U of
+# a, b, c, 32-bit big-endian"; "floor of the root of 4096 s, for a, b, c,
+# 32-bit".
 FORM = struct.Struct('>5B3B3I3I')
 assert FORM.size == DECISION
+PHASE_BITS = 1 + 2 + 4  # of byte 1: "phases a=1, b=2, c=4"
 
 
 def balanced(loops: int, reaches: bool) -> bool:
@@ -33,14 +37,15 @@ def balanced(loops: int, reaches: bool) -> bool:
                                for name in PHASE_LOOPS)
 
 
-def trip(phases: int, loops: int, towards: int, reaches: bool) -> int:
-    """By byte 1, the loops of the first zone, the direction, and whether 3I2
-    reaches its pickup."""
+def trip(phases: int, quadrilaterals: int, loops: int, towards: int,
+         reaches: bool) -> int:
+    """By both parts of byte 1, the loops of the first zone, the direction, and
+    whether 3I2 reaches its pickup."""
     # "trip: 1 if any phase operates, or direction is forward and any loop
-    # asserts; else 0", with what CR 4 adds. Of the second zone CR 2 says: "It
-    # does not trip."
+    # asserts; else 0", with what CR 4 adds. Of bits 8, 16 and 32 CR 7 says:
+    # "any of them sets trip". Of the second zone CR 2 says: "It does not trip."
     return int(phases != 0 or (towards == FORWARD and loops != 0)
-               or balanced(loops, reaches))
+               or balanced(loops, reaches) or quadrilaterals != 0)
 
 
 def decision_record(record: bytes, samples: list[int]) -> bytes:
@@ -55,10 +60,11 @@ def decision_record(record: bytes, samples: list[int]) -> bytes:
     v2, i2 = negative(*v), negative(*i)
     # CR 4 leaves it as it is: "Direction still reads 0."
     towards = direction(given, v2, i2)
-    tripping = trip(operating, first, towards,
+    quadrilaterals = quadrilateral_bits(given, v, i, towards)
+    tripping = trip(operating, quadrilaterals, first, towards,
                     reaches_pickup(i2, given.pickup))
-    return FORM.pack(tripping, operating, first, towards, second,
-                     *slopes_of_change(record, phases),
+    return FORM.pack(tripping, operating + quadrilaterals, first, towards,
+                     second, *slopes_of_change(record, phases),
                      *(phase.U for phase in phases),
                      *(phase.differential for phase in phases))
 

@@ -184,7 +184,7 @@ def by_phase(numbers: list[int], ends: int) -> list[Phase]:
 
 
 def phases_operating(record: bytes, phases: list[Phase]) -> int:
-    """Byte 1 of the decision."""
+    """Bits 1, 2 and 4 of byte 1 of the decision."""
     _, K, pickup = slope(record)
     # "phases a=1, b=2, c=4"
     return sum(bit for bit, phase in zip((1, 2, 4), phases)

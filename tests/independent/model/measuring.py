@@ -70,6 +70,7 @@ class Line(NamedTuple):
     zr: int
     pickup: int  # "pickup of 3I2, counts"
     r2: int = OFF   # the second reach
+    R: int = OFF    # the resistive reach, in tenths
 
 
 def line(record: bytes) -> Line:
@@ -80,7 +81,7 @@ def line(record: bytes) -> Line:
                                    signed=field.signed) for field in FIELDS}
     return Line(ends=at[0], Z=Phasor(at[6], at[8]), r=at[10],
                 k=Phasor(at[12], at[14]), D=Phasor(at[16], at[18]),
-                zf=at[20], zr=at[22], pickup=at[24], r2=at[26])
+                zf=at[20], zr=at[22], pickup=at[24], r2=at[26], R=at[28])
 
 
 # ---- Window and phasors ----------------------------------------------------

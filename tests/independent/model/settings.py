@@ -1,5 +1,6 @@
 """The rules of document 01 for settings, in its order and words, with the
-second reach of document 02, CR 2; and the parts of the relay's state.
+second reach of document 02, CR 2, and the resistive reach of CR 7; and the
+parts of the relay's state.
 
 Each call takes the relay's state and the other lent slice as bytes, and gives
 what it leaves of both. Comments in quotes are the document's own sentences.
@@ -63,9 +64,12 @@ FIELDS = (
     # Document 02, CR 2: "Settings bytes 26 and 27 become its reach: 0 is off,
     # else 1 to 2000 and not below the first reach."
     Field(26, 'second reach', 0, 2000),
+    # CR 7: "Settings bytes 28 and 29 hold R: 0 is off, 1 to 1000." "Refusals:
+    # 6 at 28 in the offset order."
+    Field(28, 'resistive reach R', 0, 1000),
 )
-OFF = 0                                # a second reach that is off
-SPARE = range(28, 31 + 1)              # "26 to 31 | zero bytes | 0", from 28
+OFF = 0                                # a second or resistive reach that is off
+SPARE = range(30, 31 + 1)              # "26 to 31 | zero bytes | 0", from 30
 SQUARES = range(998000, 1002000 + 1)   # "sum of squares 998000 to 1002000"
 
 
