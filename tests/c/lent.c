@@ -329,3 +329,12 @@ void stored_state_serves(const uint8_t *record, const uint8_t *window, const uin
   check("confirm", confirm(other, RECORD), GORSEPETAL_DONE);
   state_is(other, zeros, zeros);
 }
+
+void comes_into_force(const uint8_t *record) {
+  lend_state(other, zeros);
+  check("propose", propose(record, RECORD), GORSEPETAL_DONE);
+  check("confirm", confirm(record, RECORD), GORSEPETAL_DONE);
+  state_is(record, zeros, zeros);
+  check("read back", read_back(RECORD), GORSEPETAL_DONE);
+  out_is("record", record);
+}

@@ -125,6 +125,9 @@ void out_untouched(void);
 void out_begins(const char *what, const uint8_t *bytes, size_t length);
 void out_is(const char *what, const uint8_t *bytes);
 
+/* This record, proposed and confirmed where another is in force: both calls are done, it is in force, and it reads back. */
+void comes_into_force(const uint8_t *record);
+
 /* A stored state, window and all: this record in force, the other one pending, and all frames of the window kept but the last. It has to
 ** read back, to decide and to feed to this decision, and its pending record to be confirmed. */
 void stored_state_serves(const uint8_t *record, const uint8_t *window, const uint8_t *wanted);

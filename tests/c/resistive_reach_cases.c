@@ -90,12 +90,7 @@ static void resistive_reach_in_force(void) {
   static const int reaches[] = {1, 20, 256, MOST};
   for (size_t k = 0; k < sizeof reaches / sizeof *reaches; k++) {
     const uint8_t *record = with_r(reaches[k]);
-    lend_state(other, zeros);
-    check("propose", propose(record, RECORD), GORSEPETAL_DONE);
-    check("confirm", confirm(record, RECORD), GORSEPETAL_DONE);
-    state_is(record, zeros, zeros);
-    check("read back", read_back(RECORD), GORSEPETAL_DONE);
-    out_is("record", record);
+    comes_into_force(record);
     check("R, in bytes 28 and 29", 256u * out.all[GUARD + 28] + out.all[GUARD + 29], (uint64_t)reaches[k]);
   }
 }

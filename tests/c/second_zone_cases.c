@@ -67,12 +67,7 @@ static void confirmation_of_the_second_reach(void) {
 
 static void second_reach_in_force(void) {
   const uint8_t *record = with_reaches(850, 1200);
-  lend_state(other, zeros);
-  check("propose", propose(record, RECORD), GORSEPETAL_DONE);
-  check("confirm", confirm(record, RECORD), GORSEPETAL_DONE);
-  state_is(record, zeros, zeros);
-  check("read back", read_back(RECORD), GORSEPETAL_DONE);
-  out_is("record", record);
+  comes_into_force(record);
   check("second reach, in bytes 26 and 27", 256u * out.all[GUARD + 26] + out.all[GUARD + 27], 1200);
 }
 
