@@ -11,7 +11,7 @@ use crate::{Comparison, Comparisons};
 const CANDIDATES: u64 = 101;
 
 // c of each phase.
-#[derive(Drop)]
+#[derive(Clone, Copy)]
 pub struct Changes {
     pub a: u8,
     pub b: u8,

@@ -1,5 +1,7 @@
 // Percentage differential (source documents 000 and 003): per phase, what flows into the line and is not let out again, against all that
 // flows, and whether that is enough to operate.
+#![tactic(auto)]
+
 pub mod change; // the slope at which a phase changes
 
 ghost use Rattle.std.specs.Prelude.{◌≡◌, ◌<◌, ◌≤◌};
@@ -20,14 +22,14 @@ const SIXTY_FOURTHS_SQUARED: u64 = 4096;
 const SLOPE_SCALE: u64 = 40960000;
 
 // What is compared in one phase: the squared magnitude s of the differential, in counts, and the restraint U, in sixty-fourths of a count.
-#[derive(Drop)]
+#[derive(Clone, Copy)]
 pub struct Comparison {
     pub square: u64,
     pub restraint: u64,
 }
 
 // The same in the three phases.
-#[derive(Drop)]
+#[derive(Clone, Copy)]
 pub struct Comparisons {
     pub a: Comparison,
     pub b: Comparison,

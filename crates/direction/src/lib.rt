@@ -1,5 +1,6 @@
 // Sequence quantities, and the direction of a fault, source document 002's negative-sequence element. Only end 1 is used. Here v2 is 3V2 and
 // i2 is 3I2.
+#![tactic(auto)]
 ghost use Rattle.std.specs.Prelude.{◌≡◌};
 ghost use Rattle.whole.specs.Sizes.{Within};
 ghost use Rattle.plane.specs.Sizes.{Inside};
@@ -13,7 +14,7 @@ use plane::Phasor;
 pub mod sequence; // 3V1, 3V2, 3I2
 
 // Which way a fault lies from the relay.
-#[derive(Drop)]
+#[derive(Clone, Copy)]
 pub enum Direction {
     None,
     Forward,
@@ -21,7 +22,7 @@ pub enum Direction {
 }
 
 // What the negative sequence tells of a fault.
-#[derive(Drop)]
+#[derive(Clone, Copy)]
 pub struct Bearing {
     // whether 3I2 reaches its pickup
     pub unbalanced: bool,

@@ -15,7 +15,7 @@ use direction::sequence;
 use plane::{Phases, Phasor};
 
 // A loop: its voltage, its current and its polarising quantity.
-#[derive(Drop)]
+#[derive(Clone, Copy)]
 pub struct Loop {
     pub v: Phasor,
     pub i: Phasor,
@@ -23,7 +23,7 @@ pub struct Loop {
 }
 
 // The three ground loops and the three phase loops.
-#[derive(Drop)]
+#[derive(Clone, Copy)]
 pub struct SixLoops {
     pub ag: Loop,
     pub bg: Loop,
@@ -34,21 +34,21 @@ pub struct SixLoops {
 }
 
 // n and m of a loop. Where m is positive, the loop asserts from a reach of 1000000 n over m on.
-#[derive(Drop)]
+#[derive(Clone, Copy)]
 pub struct Ratio {
     pub n: i64,
     pub m: i64,
 }
 
 // Whether a loop asserts in each of two zones.
-#[derive(Drop)]
+#[derive(Clone, Copy)]
 pub struct InZones {
     pub first: bool,
     pub second: bool,
 }
 
 // The loops that assert in each of two zones, as bits.
-#[derive(Drop)]
+#[derive(Clone, Copy)]
 pub struct ZoneBits {
     pub first: u8,
     pub second: u8,

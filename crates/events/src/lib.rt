@@ -1,4 +1,5 @@
 // The reader of event files (document 02, CR 5), in a lent slice: open, wanted, read up to where a frame is fed, and end.
+#![tactic(auto)]
 ghost use Rattle.std.specs.Prelude.{◌≡◌, true, ◌+◌, ◌*◌, ◌<◌, ◌≤◌, length, drop};
 ghost use Rattle.records.specs.Record.{record_length};
 ghost use Rattle.files.specs.Reader.{refusal};
@@ -36,7 +37,7 @@ const OTHER: u8 = 12;
 const LONGEST_FRAME: usize = 42;
 
 // What a call of read comes to: the reading has ended; the bytes are taken; a record is whole, and its frame is to be fed.
-#[derive(Drop)]
+#[derive(Clone, Copy)]
 pub enum Step {
     Ended(Answer),
     Taken,

@@ -1,4 +1,5 @@
 // What is found in a window: the trip rule on it, and the 32 bytes of the decision record that tell it.
+#![tactic(auto)]
 ghost use Rattle.std.specs.Prelude.{◌≡◌, ◌+◌, ◌<◌, ◌≤◌, ◌^◌, ◌∷◌, replicate};
 ghost use Rattle.lent.specs.Lent.{over};
 ghost use Rattle.findings.specs.DecisionRecord.{balanced_fault, trip, word, decision_bytes};
@@ -17,7 +18,7 @@ const TRIP: u8 = 1;
 const NO_TRIP: u8 = 0;
 
 // What is found in a window.
-#[derive(Drop)]
+#[derive(Clone, Copy)]
 pub struct Findings {
     // the phases that operate: a 1, b 2, c 4
     pub operating: u8,

@@ -1,9 +1,10 @@
 // Work on lent bytes: the two loops that every write and every comparison goes through.
+#![tactic(auto)]
 ghost use Rattle.std.specs.Prelude.{◌≡◌, ◌+◌, ◌≤◌, length};
 ghost use Rattle.lent.specs.Lent.{over, first_difference};
 
 // What a comparison finds: no difference, or the first place of one.
-#[derive(Drop)]
+#[derive(Clone, Copy)]
 pub enum Agreement {
     Same,
     Differ(usize),

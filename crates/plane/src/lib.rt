@@ -1,18 +1,19 @@
 // Complex numbers with whole parts: phasors, impedances and the turns between the phases, and what document 01 does with two of them.
+#![tactic(auto)]
 ghost use Rattle.std.specs.Prelude.{◌≡◌, ◌*◌, ◌^◌, pos, nat_abs, ◌<ℤ◌};
 ghost use Rattle.whole.specs.Sizes.{Within};
 ghost use Rattle.plane.specs.Plane.{plus, minus, times, scaled, rounded, dot, cross, squared, squared_magnitude, minus_j};
 ghost use Rattle.plane.specs.Sizes.{Inside, Multiply};
 
 // A voltage or a current in counts, or any other complex number.
-#[derive(Drop)]
+#[derive(Clone, Copy)]
 pub struct Phasor {
     pub re: i64,
     pub im: i64,
 }
 
 // The same quantity in the three phases.
-#[derive(Drop)]
+#[derive(Clone, Copy)]
 pub struct Phases {
     pub a: Phasor,
     pub b: Phasor,

@@ -1,5 +1,6 @@
 // The lines of the window program (document 01, "Window program"), each written at the front of a lent buffer whose later
 // bytes stay.
+#![tactic(auto)]
 ghost use Rattle.std.specs.Prelude.{◌≡◌, ◌+◌, ◌*◌, ◌≤◌, length};
 ghost use Rattle.report.specs.Printed.{decimal, printed};
 ghost use Rattle.report.specs.Sizes.{most_digits, line_length};

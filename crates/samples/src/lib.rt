@@ -1,4 +1,5 @@
 // A window of samples: its numbers out of big-endian bytes, and its first missing one.
+#![tactic(auto)]
 ghost use Rattle.std.specs.Prelude.{◌≡◌, true, ◌+◌, ◌*◌, ◌/◌, ◌%◌, ◌≤◌, length, take};
 ghost use Rattle.whole.specs.TwosComplement.{signed, unsigned};
 ghost use Rattle.samples.specs.Window.{channels, window_length, numbers_of, first_missing};
@@ -16,7 +17,7 @@ pub const LONGEST: usize = 336;
 const MISSING: i16 = -32768;
 
 // What a search for a missing sample finds: nothing, or the first place of one.
-#[derive(Drop)]
+#[derive(Clone, Copy)]
 pub enum Found {
     Nothing,
     At(usize),

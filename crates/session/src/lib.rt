@@ -1,5 +1,6 @@
 // What the window program does with its input (document 01, "Window program"): a proposal, a confirmation, then windows. It reads, calls
 // and prints. Every refusal comes from a call, which is lent as many bytes as came.
+#![tactic(auto)]
 ghost use Rattle.std.specs.Prelude.{◌≡◌, List, ℕ, ◌≤◌, eqb, length};
 ghost use Rattle.io.specs.Counts.{IsPrefixLen};
 ghost use Rattle.gorsepetal.specs.Calls.{Proposed, Confirmed};

@@ -1,4 +1,5 @@
 // The settings record of document 01: its fields. The table of its rules is specs/Table.antt; `checking` goes through it.
+#![tactic(auto)]
 ghost use Rattle.std.specs.Prelude.{◌≡◌, ◌<◌, get_or};
 ghost use Rattle.settings.specs.Record.{field_at, signed_at};
 
@@ -9,7 +10,7 @@ pub mod fields; // the fields by name
 pub const LENGTH: usize = 32;
 
 // What a check finds: a good record, or the offset of the first fault.
-#[derive(Drop)]
+#[derive(Clone, Copy)]
 pub enum Checked {
     Good,
     Bad(u8),

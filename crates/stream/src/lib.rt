@@ -1,5 +1,6 @@
 // The window that is fed frame by frame (document 02, CR 1). It lies in the relay's state as bytes. For each frame it is read, lent, moved on
 // by that frame, and written back.
+#![tactic(auto)]
 ghost use Rattle.std.specs.Prelude.{◌≡◌, ◌+◌, ◌*◌, ◌≤◌, length, take};
 ghost use Rattle.std.proofs.Math.Seq.{paste};
 ghost use Rattle.lent.specs.Lent.{over};
@@ -16,7 +17,7 @@ pub const FULL: u16 = FRAMES as u16;
 pub const STORED_LENGTH: usize = 2 + 2 * LONGEST;
 
 // The frames, the oldest first, and how many were kept. A line of fewer ends uses the first of the numbers only.
-#[derive(Drop)]
+#[derive(Clone, Copy)]
 pub struct Window {
     pub numbers: [i16; LONGEST],
     pub count: u16,

@@ -1,5 +1,6 @@
 // The window program's session on each file that data/names lists, in that order, with a heading before each: what it prints is
 // compared with what an independent program expects.
+#![tactic(auto)]
 
 const OUT: i32 = 1;
 
