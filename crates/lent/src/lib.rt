@@ -1,5 +1,6 @@
 // Work on lent bytes: the two loops that every write and every comparison goes through.
 #![tactic(auto)]
+
 ghost use Rattle.std.specs.Prelude.{◌≡◌, ◌+◌, ◌≤◌, length};
 ghost use Rattle.lent.specs.Lent.{over, first_difference};
 

@@ -17,10 +17,14 @@ same_within zero zero zero p q = refl
 same_within zero (suc l) zero p q = refl
 same_within (suc k) zero zero p q = refl
 same_within (suc k) (suc l) zero p q = refl
+same_within zero zero (suc j) p q = elim p [ ]
+same_within zero (suc l) (suc j) p q = elim p [ ]
+same_within (suc k) zero (suc j) p q = elim q [ ]
 same_within (suc k) (suc l) (suc j) p q = ap suc (same_within k l (suc j / 4) (omega arith) (omega arith))
 
 pub calls_next : (n : ℕ) → 0 < n → calls n ≡ suc (calls (n / 4))
 unfolding calls
+calls_next zero h = elim h [ ]
 calls_next (suc j) h = ap suc (same_within j (suc j / 4) (suc j / 4) (omega arith) (omega arith))
 
 -- below 4 ^ k there are at most k + 1

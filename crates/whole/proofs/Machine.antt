@@ -20,7 +20,7 @@ Read z = to_z w64 (of_z w64 z)
 
 -- of a call's result: `back c.f.result c.f.ok`, for `simp`
 pub back : (z : ℤ) → mag z < 2 ^ 63 → Read z ≡ z
-back z h = to_z-of_z (record { sfits = h })
+back z h = to_z-of_z {w = w64} (record { sfits = h })
 
 -- ---- tests: what a branch knows of x < y and of x <= y
 

@@ -1,6 +1,7 @@
 // Whole-number arithmetic of the relay: rounding by a divisor, the root rounded down and up, 16 bits as a signed number and back, and
 // yes and no as bits.
 #![tactic(auto)]
+
 ghost use Rattle.std.specs.Prelude.{◌≡◌, cond, [], ◌∷◌, ◌+◌, ◌*◌, ◌≤◌, ◌<◌, ◌^◌, pos, nat_abs, ◌-ℤ◌, ◌*ℤ◌, ◌<ℤ◌};
 ghost use Rattle.std.specs.Int.Signed.{shr_z};
 ghost use Rattle.whole.specs.Sizes.{Within};

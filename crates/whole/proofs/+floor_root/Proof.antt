@@ -38,11 +38,11 @@ pub +floor_root_spec : {M : Type 1} → statement M
     λ t. lts.spec
     (below t, floor-root.Post) (at t) floor-root.Post
     (λ c κs. omega (arith, calls_next c.before.args.x (omega arith)))
-    (λ c. omega (arith, small c.before.before.ranges.x c.floor-root.ensures))
-    (λ c. omega (arith, small c.before.before.ranges.x c.floor-root.ensures))
-    (λ c. omega (arith, small c.before.before.ranges.x c.floor-root.ensures))
-    (λ c. let h = small c.before.before.ranges.x c.floor-root.ensures in omega (arith, mul-le-mul h h))
-    (λ c. omega (arith, small c.before.before.before.ranges.x c.before.floor-root.ensures))
+    (λ c. omega (arith, small c.before.before.ranges.x c.floor_root-r.ensures))
+    (λ c. omega (arith, small c.before.before.ranges.x c.floor_root-r.ensures))
+    (λ c. omega (arith, small c.before.before.ranges.x c.floor_root-r.ensures))
+    (λ c. let h = small c.before.before.ranges.x c.floor_root-r.ensures in omega (arith, mul-le-mul h h))
+    (λ c. omega (arith, small c.before.before.before.ranges.x c.before.floor_root-r.ensures))
     (λ c. floor_root_only (omega arith))
-    (λ c. floor_root_only (omega (arith, floor_root_means c.before.floor-root.ensures)))
-    (λ c. floor_root_only (omega (arith, floor_root_means c.before.floor-root.ensures)))
+    (λ c. floor_root_only (omega (arith, floor_root_means c.before.floor_root-r.ensures)))
+    (λ c. floor_root_only (omega (arith, floor_root_means c.before.floor_root-r.ensures)))

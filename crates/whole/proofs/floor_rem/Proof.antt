@@ -32,6 +32,6 @@ floor_rem_spec =
     tie.close
     (tie.spec
     (λ c. (divisor _ c.requires, rw (to_z-of_z c.ranges.s, to_z-of_z c.ranges.d) (quot_fits c.requires c.ranges.s)))
-    (λ c. (sum c.before.ranges.s c.before.ranges.d c.before.requires c.if1.true).0)
-    (λ c. (sum c.before.ranges.s c.before.ranges.d c.before.requires c.if1.true).1)
-    (λ c. same c.before.ranges.s c.before.ranges.d c.before.requires c.if1.false))
+    (λ c. (sum c.before.ranges.s c.before.ranges.d c.before.requires c.if-r-lt0.true).0)
+    (λ c. (sum c.before.ranges.s c.before.ranges.d c.before.requires c.if-r-lt0.true).1)
+    (λ c. same c.before.ranges.s c.before.ranges.d c.before.requires c.if-r-lt0.false))

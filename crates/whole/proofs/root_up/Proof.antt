@@ -19,7 +19,7 @@ pub root_up_spec : {M : Type 1} → statement M
 root_up_spec =
     tie.close
     (tie.spec
-    (λ c κs. search rules) (λ c. omega (arith, (floor_root_means c.floor-root.ensures).low))
-    (λ c. omega (arith, floor_root_below c.before.floor-root.ensures (2 ^ 32) (omega arith)))
-    (λ c. root_up_unique (one_more c.before.floor-root.ensures c.if1.true) (root_up_is _))
-    (λ c. root_up_unique (exact c.before.floor-root.ensures c.if1.false) (root_up_is _)))
+    (λ c κs. search rules) (λ c. omega (arith, (floor_root_means c.floor_root-r.ensures).low))
+    (λ c. omega (arith, floor_root_below c.before.floor_root-r.ensures (2 ^ 32) (omega arith)))
+    (λ c. root_up_unique (one_more c.before.floor_root-r.ensures c.if-r-x.true) (root_up_is _))
+    (λ c. root_up_unique (exact c.before.floor_root-r.ensures c.if-r-x.false) (root_up_is _)))

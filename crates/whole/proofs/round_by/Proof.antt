@@ -58,6 +58,6 @@ round_by_spec =
     tie.close
     (tie.spec
     (λ c. (omega arith, rw (rd c.requires.2 tt) (fit (halved c) tt))) (λ c. rw (worked c) (fit (small c) tt)) (λ c κs. search rules)
-    (λ c. (divided c.before (worked c.before) c.floor-rem.ensures).0)
-    (λ c. (divisor _ c.before.requires.0, (divided c.before (worked c.before) c.floor-rem.ensures).1))
-    (λ c. (divided c.before (worked c.before) c.floor-rem.ensures).2))
+    (λ c. (divided c.before (worked c.before) c.floor_rem.ensures).0)
+    (λ c. (divisor _ c.before.requires.0, (divided c.before (worked c.before) c.floor_rem.ensures).1))
+    (λ c. (divided c.before (worked c.before) c.floor_rem.ensures).2))
