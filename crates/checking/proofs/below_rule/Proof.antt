@@ -9,7 +9,7 @@ decided : tie.Need-returns-2
 decided c =
     let x = c.before.before.signed-field in
     let y = c.before.signed-field2 in
-    let h = simp (back x.result x.type-inv, back y.result y.type-inv) at c.judged.ensures in
+    let h = simp (back x.result x.type_inv, back y.result y.type_inv) at c.judged.ensures in
     decides _ _ _ _ (search rules) (rw (x.ensures, y.ensures) at h)
 
 pub below_rule_spec : {M : Type 1} → statement M

@@ -17,7 +17,7 @@ zone-bits-requires c κs =
     let r2 = c.second-reach in
     let r = c.before.reach in
     let h = c.before.before.before.requires in
-    simp (back r.result r.type-inv, back r2.result r2.type-inv) (h.0, along r.ensures (reach_within h.0), along r2.ensures (second_reach_within h.0), h.1)
+    simp (back r.result r.type_inv, back r2.result r2.type_inv) (h.0, along r.ensures (reach_within h.0), along r2.ensures (second_reach_within h.0), h.1)
 
 -- the bits at both reaches, whether the second zone is on or off
 module _ (c : tie.After-zone-bits) where
@@ -31,7 +31,7 @@ module _ (c : tie.After-zone-bits) where
       let z = replica start.args.s.now in
       let r2 = c.before.second-reach in
       let r = c.before.before.reach in
-      let e = simp (back r.result r.type-inv, back r2.result r2.type-inv) at c.zone-bits.ensures in
+      let e = simp (back r.result r.type_inv, back r2.result r2.type_inv) at c.zone-bits.ensures in
       (e.0 ∙ (λ k. loop_bits z (r.ensures k) start.args.l), e.1 ∙ (λ k. loop_bits z (r2.ensures k) start.args.l))
 
 off : tie.Need-returns

@@ -26,7 +26,7 @@ sides c =
     let zf = f.forward-limit in
     let zr = r.reverse-limit in
     let T = t.torque.ensures ∙ ap (λ (d : Phasor). torque d a.v2 a.i2) g.angle.ensures.0 in
-    (simp (back zf.result zf.type-inv, back zr.result zr.type-inv, back t.torque.result t.torque.type-inv, back q.square.result q.square.type-inv) at c.side.ensures)
+    (simp (back zf.result zf.type_inv, back zr.result zr.type_inv, back t.torque.result t.torque.type_inv, back q.square.result q.square.type_inv) at c.side.ensures)
     ∙ (λ k. side_of (zf.ensures k) (zr.ensures k) (T k) (q.square.ensures k))
 
 side-requires : tie.Need-side-requires
@@ -37,7 +37,7 @@ side-requires c κs =
     let zf = f.forward-limit in
     let zr = r.reverse-limit in
     let q = c.square in
-    simp (back zf.result zf.type-inv, back zr.result zr.type-inv, back q.result q.type-inv) (
+    simp (back zf.result zf.type_inv, back zr.result zr.type_inv, back q.result q.type_inv) (
       along zf.ensures (forward_within h.0),
       along zr.ensures (reverse_within h.0),
       wider (along q.ensures (within_dot h.2 h.2)) tt,

@@ -19,7 +19,7 @@ returns : tie.Need-returns
 unfolding reaches_pickup
 returns c =
     let h = small c.before in
-    simp (rd h tt, rd (mul h h) tt, back c.square.result c.square.type-inv) (rw (c.square.ensures, c.before.negative-sequence-pickup.ensures))
+    simp (rd h tt, rd (mul h h) tt, back c.square.result c.square.type_inv) (rw (c.square.ensures, c.before.negative-sequence-pickup.ensures))
 
 pub reaches_pickup_spec : {M : Type 1} → statement M
 reaches_pickup_spec = tie.close (tie.spec (λ c κs. search rules) mul-result (λ c κs. search rules) returns)

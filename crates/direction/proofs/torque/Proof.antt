@@ -21,7 +21,7 @@ dot-requires c κs =
 returns : tie.Need-returns
 unfolding torque
 returns c =
-    back c.dot.result c.dot.type-inv ∙ c.dot.ensures ∙ ap (dot c.before.before.args.v2) (turned c.before)
+    back c.dot.result c.dot.type_inv ∙ c.dot.ensures ∙ ap (dot c.before.before.args.v2) (turned c.before)
 
 pub torque_spec : {M : Type 1} → statement M
 torque_spec = tie.close (tie.spec (λ c κs. search rules) dot-requires returns)

@@ -4,7 +4,7 @@ use Rattle.entry.proofs.Cases.{confirm_5, confirm_absent, confirm_8, confirm_0, 
 use Rattle.entry.proofs.confirm.Statement.{statement}
 use Rattle.entry.proofs.confirm.Tie as tie
 
-cast-t25 : tie.Need-overflow-cast-t25
+cast-t25 : tie.Need-overflow_cast-result
 cast-t25 c = record { fits = search (rules, differ_fits) }
 
 pub confirm_spec : {M : Type 1} → statement M

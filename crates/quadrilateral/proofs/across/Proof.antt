@@ -13,13 +13,13 @@ size-requires : tie.Need-size-requires
 size-requires c κs =
     let h = c.before.requires in
     let z = c.cross in
-    simp (back z.result z.type-inv) (wider (along z.ensures (within_cross h.0 h.1)) tt)
+    simp (back z.result z.type_inv) (wider (along z.ensures (within_cross h.0 h.1)) tt)
 
 returns : tie.Need-returns
 returns c =
     let z = c.before.cross in
     let h = c.before.before.requires in
-    let e = (simp (back z.result z.type-inv) at c.size.ensures) ∙ ap nat_abs z.ensures in
+    let e = (simp (back z.result z.type_inv) at c.size.ensures) ∙ ap nat_abs z.ensures in
     (e, omega (arith, e, (within_cross h.0 h.1).size))
 
 pub across_spec : {M : Type 1} → statement M

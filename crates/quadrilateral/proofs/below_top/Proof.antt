@@ -43,7 +43,7 @@ returns c =
     let m = c.before in
     let p = m.before in
     let left = m.minus.ensures ∙ ap₂ minus (first p) p.scaled2.ensures in
-    simp (back c.cross.result c.cross.type-inv) (ap (lt_z (pos 0)) (c.cross.ensures ∙ ap (λ (x : Phasor). cross x (start p).args.ir) left))
+    simp (back c.cross.result c.cross.type_inv) (ap (lt_z (pos 0)) (c.cross.ensures ∙ ap (λ (x : Phasor). cross x (start p).args.ir) left))
 
 pub below_top_spec : {M : Type 1} → statement M
 below_top_spec =

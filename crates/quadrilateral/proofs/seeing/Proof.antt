@@ -12,7 +12,7 @@ sees-requires : tie.Need-sees-requires
 sees-requires c κs =
     let r = c.before.reach in
     let h = c.before.before.before.before.requires in
-    simp (back r.result r.type-inv) (
+    simp (back r.result r.type_inv) (
       c.before.before.replica.ensures.1,
       along r.ensures (reach_within h.0),
       omega (arith, c.resistive-reach.ensures, h.0.resistive_reach_range.most),
@@ -32,7 +32,7 @@ returns c =
     let s1 = s2.before in
     let q = s1.before in
     let r = q.before.reach in
-    let back-r = back r.result r.type-inv in
+    let back-r = back r.result r.type_inv in
     let told = c.three-bits.ensures in (
       rw (
         told.0,

@@ -12,7 +12,7 @@ use Rattle.samples.proofs.high_first.Tie as tie
 returns : tie.Need-returns
 returns c =
     let back : to_z w16 (of_z w16 c.signed.result) ≡ c.signed.result = search rules in
-    let bits : c.before.unsigned.result ≡ unsigned c.before.before.args.x = rw (to_z-of_z c.before.before.ranges.x) at c.before.unsigned.ensures in
+    let bits : c.before.unsigned-u.result ≡ unsigned c.before.before.args.x = rw (to_z-of_z c.before.before.ranges.x) at c.before.unsigned-u.ensures in
     back ∙ c.signed.ensures ∙ ap (λ (u : ℕ). signed (u % 256 * 256 + u / 256)) bits
 
 pub high_first_spec : {M : Type 1} → statement M

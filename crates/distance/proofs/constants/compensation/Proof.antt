@@ -9,7 +9,7 @@ use Rattle.distance.proofs.constants.compensation.Tie as tie
 returns : tie.Need-returns
 returns c =
     let re = c.before.k-real in let im = c.k-imaginary in
-    two_fields Compensates (compensation_inside c.before.before.before.requires) re.type-inv im.type-inv re.ensures im.ensures
+    two_fields Compensates (compensation_inside c.before.before.before.requires) re.type_inv im.type_inv re.ensures im.ensures
 
 pub compensation_spec : {M : Type 1} → statement M
 compensation_spec = tie.close (tie.spec (λ c κs. search rules) (λ c κs. search rules) returns)

@@ -25,7 +25,7 @@ returns c =
     let n = c.before.before.dot in
     let h = c.before.before.before.requires in
     let l = h.1 in
-    simp (back n.result n.type-inv, back c.dot2.result c.dot2.type-inv) (
+    simp (back n.result n.type_inv, back c.dot2.result c.dot2.type_inv) (
       (λ k. record { n = n.ensures k; m = m_is c k }),
       record {
         numerator = wider (along n.ensures (within_dot l.voltage l.polarising)) tt;
