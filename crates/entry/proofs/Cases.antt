@@ -2,8 +2,8 @@
 use Prim.Native.Nat.{ℕ, ◌+◌, ◌-◌, ◌<◌, ◌≤◌}
 use mathlib.Core.Path.{◌≡◌, sym, ◌∙◌}
 use mathlib.Core.List.{List}
-use mathlib.Core.Bool.{Bool, true, false, not}
-use borrow.Author.Tests.{eq-eqb, ne_eqb, not-true, not-false}
+use mathlib.Core.Bool.{Bool, true, false}
+use borrow.Author.Tests.{eq-eqb, ne_eqb}
 use lib.ListN.{length, take, drop, length-take}
 use native.Mathlib.Omega.{arith}
 use Rattle.answers.specs.declared.Answer.{Answer}
@@ -52,23 +52,23 @@ module _ {v : Answer} {at : ℕ} {s e after : List ℕ} (room : at + 64 ≤ leng
   confirm_5 l k = let t = ne_eqb (length e) 32 l in record { answer = rw t; state = rw t (k ∙ pending_over s at room nothing) }
 
   module _ {b : Bool} (l : length e ≡ 32) (d : b ≡ is_done v) where
-    pub confirm_absent : not b ≡ true → after ≡ over s (at + 32) nothing → Confirmed v at s e v after
+    pub confirm_absent : b ≡ false → after ≡ over s (at + 32) nothing → Confirmed v at s e v after
     confirm_absent f k =
         let t = eq-eqb (length e) 32 l in
-        let r : is_done v ≡ false = sym d ∙ not-true b f in
+        let r : is_done v ≡ false = sym d ∙ f in
         record { answer = rw (t, r); state = rw (t, r, r) (k ∙ pending_over s at room nothing) }
 
-    module _ {c : Agreement} (y : not b ≡ false) (g : c ≡ first_difference (part at s) e) where
+    module _ {c : Agreement} (y : b ≡ true) (g : c ≡ first_difference (part at s) e) where
       pub confirm_8 : {i : ℕ} → c ≡ Differ i → after ≡ over s (at + 32) nothing → Confirmed v at s e (Differs i) after
       confirm_8 {i} t k =
           let n = eq-eqb (length e) 32 l in
-          let r : is_done v ≡ true = sym d ∙ not-false b y in
+          let r : is_done v ≡ true = sym d ∙ y in
           let h : first_difference (take 32 (drop (at + 32) s)) e ≡ Differ i = sym (part_is at s e g) ∙ t in
           record { answer = rw (n, r, h); state = rw (n, r, h) (k ∙ pending_over s at room nothing) }
 
       pub confirm_0 : {put : List ℕ} → c ≡ Same → put ≡ over s at e → after ≡ over put (at + 32) nothing → Confirmed v at s e Done after
       confirm_0 t p k =
           let n = eq-eqb (length e) 32 l in
-          let r : is_done v ≡ true = sym d ∙ not-false b y in
+          let r : is_done v ≡ true = sym d ∙ y in
           let h : first_difference (take 32 (drop (at + 32) s)) e ≡ Same = sym (part_is at s e g) ∙ t in
           record { answer = rw (n, r, h); state = rw (n, r, h) (rw p at k ∙ both_over s at room e nothing l) }

@@ -2,9 +2,9 @@
 use Prim.Native.Nat.{ℕ, ◌+◌, ◌<◌, ◌≤◌}
 use mathlib.Core.Path.{◌≡◌, refl, sym, ap, ◌∙◌}
 use mathlib.Core.List.{List, [], ◌∷◌, append-nil}
-use mathlib.Core.Bool.{Bool, true, false, not}
+use mathlib.Core.Bool.{Bool, true, false}
 use native.Mathlib.Omega.{arith}
-use borrow.Author.Tests.{eq-eqb, ne_eqb, not-true, not-false}
+use borrow.Author.Tests.{eq-eqb, ne_eqb}
 use lib.ListN.{length, set, replicate, drop_of_length-le}
 use Rattle.answers.specs.declared.Answer.{Answer}
 use Rattle.answers.specs.declared.Answer.TheVariants as answer
@@ -30,16 +30,16 @@ module _ {ends status : ℕ} {s left : List ℕ} where
   open_17 l k = let t = ne_eqb (length s) reader_length l in record { answer = rw t; reader = rw t k }
 
   module _ {b : Bool} (l : length s ≡ reader_length) (k : left ≡ over s 0 zeros) (g : b ≡ good_file ends status) where
-    pub open_13 : not b ≡ true → Opened ends status s answer.BadFile left
+    pub open_13 : b ≡ false → Opened ends status s answer.BadFile left
     open_13 t =
         let y = eq-eqb (length s) reader_length l in
-        let n = sym g ∙ not-true b t in
+        let n = sym g ∙ t in
         record { answer = rw (y, n); reader = rw (y, n) (k ∙ all_over s zeros l) }
 
-    pub open_0 : not b ≡ false → Opened ends status s answer.Done (set (set left 0 ends) 1 status)
+    pub open_0 : b ≡ true → Opened ends status s answer.Done (set (set left 0 ends) 1 status)
     open_0 t =
         let y = eq-eqb (length s) reader_length l in
-        let n = sym g ∙ not-false b t in
+        let n = sym g ∙ t in
         record { answer = rw (y, n); reader = rw (y, n) (ap (λ (q : List ℕ). set (set q 0 ends) 1 status) (k ∙ all_over s zeros l)) }
 
 -- inside a record
@@ -52,13 +52,13 @@ module _ {s left : List ℕ} where
   end_17 l k = let t = ne_eqb (length s) reader_length l in record { answer = rw t; reader = rw t k }
 
   module _ {a : Answer} {b : Bool} (l : length s ≡ reader_length) (f : a ≡ refusal (reader_of s)) (d : b ≡ is_done a) where
-    pub end_ended : not b ≡ true → left ≡ s → AtEnd s a left
+    pub end_ended : b ≡ false → left ≡ s → AtEnd s a left
     end_ended t k =
         let y = eq-eqb (length s) reader_length l in
         let n = has_ended s f d t in
         record { answer = rw (y, ended_is s n) (f ∙ ap refusal (ended_is s n)); reader = rw (y, n) k }
 
-    module _ {held : ℕ} (t : not b ≡ false) (h : held ≡ held_in s) where
+    module _ {held : ℕ} (t : b ≡ true) (h : held ≡ held_in s) where
       pub end_0 : held ≡ 0 → left ≡ s → AtEnd s answer.Done left
       end_0 z k =
           let y = eq-eqb (length s) reader_length l in
@@ -67,7 +67,7 @@ module _ {s left : List ℕ} where
           record { answer = rw (y, held_is s on, none); reader = rw (y, on, none) k }
 
 module _ {s : List ℕ} {a : Answer} {b : Bool} {held index : ℕ} (l : length s ≡ reader_length) (f : a ≡ refusal (reader_of s)) (d : b ≡ is_done a) where
-  pub end_11 : not b ≡ false → held ≡ held_in s → (held ≡ 0 → ⊥) → index ≡ index_in s → AtEnd s (answer.InsideRecord index) (set s 2 11)
+  pub end_11 : b ≡ true → held ≡ held_in s → (held ≡ 0 → ⊥) → index ≡ index_in s → AtEnd s (answer.InsideRecord index) (set s 2 11)
   end_11 t h n i =
       let y = eq-eqb (length s) reader_length l in
       let on = goes_on s f d t in

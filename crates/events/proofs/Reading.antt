@@ -2,7 +2,7 @@
 use Prim.Native.Nat.{ℕ, ◌+◌, ◌-◌, ◌≤◌}
 use mathlib.Core.Path.{◌≡◌, sym, ap, ◌∙◌}
 use mathlib.Core.List.{List}
-use mathlib.Core.Bool.{Bool, true, false, not}
+use mathlib.Core.Bool.{Bool, true, false}
 use native.Mathlib.Nat.{sub-zero}
 use native.Mathlib.Omega.{arith}
 use borrow.Author.Tests.{eq-eqb}
@@ -18,12 +18,12 @@ use Rattle.events.specs.declared.Step.TheVariants as step
 use Rattle.events.proofs.Standing.{holds, held_is, ended_is, hand_length, goes_on, has_ended}
 
 module _ (s : List ℕ) {a : Answer} {b : Bool} (f : a ≡ refusal (reader_of s)) (d : b ≡ is_done a) where
-  pub read_ended : {p left : List ℕ} → not b ≡ true → left ≡ s → Read s p (step.Ended a) left
+  pub read_ended : {p left : List ℕ} → b ≡ false → left ≡ s → Read s p (step.Ended a) left
   read_ended t k =
       let n = has_ended s f d t in
       record { step = rw (ended_is s n) (ap step.Ended (f ∙ ap refusal (ended_is s n))); reader = rw n k }
 
-  module _ (l : length s ≡ reader_length) (t : not b ≡ false) {n : ℕ} (w : n ≡ wanted_in s) where
+  module _ (l : length s ≡ reader_length) (t : b ≡ true) {n : ℕ} (w : n ≡ wanted_in s) where
     pub read_on : is_reading s ≡ true
     read_on = goes_on s f d t
 

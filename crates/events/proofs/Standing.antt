@@ -4,7 +4,7 @@ use mathlib.Core.Path.{◌≡◌, refl, sym, ap, ◌∙◌}
 use mathlib.Core.List.{List}
 use mathlib.Core.Bool.{Bool, true, false, false≢true, not}
 use native.Mathlib.Omega.{arith}
-use borrow.Author.Tests.{eq-eqb, ne_eqb, le-leb, lt-leb, eqb-true, ltb-true, not-true, not-false}
+use borrow.Author.Tests.{eq-eqb, ne_eqb, le-leb, lt-leb, eqb-true, ltb-true}
 use lib.Dec.{eqb, ltb}
 use lib.ListN.{length, drop, length-drop}
 use lib.Seq.{length-take-le}
@@ -28,13 +28,13 @@ module _ (s : List ℕ) {ended : ℕ} (e : ended ≡ ended_in s) where
     is_good : (x : Bool) → b ≡ x → good_file (ends_in s) (status_in s) ≡ x
     is_good x y = rw (← d, ← u) (sym g ∙ y)
 
-    pub reading_bad : not b ≡ true → false ≡ is_reading s
+    pub reading_bad : b ≡ false → false ≡ is_reading s
     unfolding is_reading
-    reading_bad t = rw (eq-eqb (ended_in s) 0 (omega arith), is_good false (not-true b t))
+    reading_bad t = rw (eq-eqb (ended_in s) 0 (omega arith), is_good false t)
 
-    pub reading_held : {held long : ℕ} → not b ≡ false → held ≡ held_in s → long ≡ record_length (narrow ends status) → ltb held long ≡ is_reading s
+    pub reading_held : {held long : ℕ} → b ≡ true → held ≡ held_in s → long ≡ record_length (narrow ends status) → ltb held long ≡ is_reading s
     unfolding is_reading
-    reading_held t h l = rw (eq-eqb (ended_in s) 0 (omega arith), is_good true (not-false b t), h, l, d, u)
+    reading_held t h l = rw (eq-eqb (ended_in s) 0 (omega arith), is_good true t, h, l, d, u)
 
 -- ---- what a reading holds
 
@@ -106,16 +106,16 @@ module _ (s : List ℕ) {b : Bool} (r : b ≡ is_reading s) where
 -- by the test of the refusal: the reading goes on, or has ended
 module _ (s : List ℕ) {a : Answer} {b : Bool} (f : a ≡ refusal (reader_of s)) (d : b ≡ is_done a) where
   by_reading : (x y : Bool) → is_reading s ≡ x → not b ≡ y → x ≡ not y
-  by_reading true true t u = absurd (false≢true (sym (not-true b u) ∙ d ∙ ap is_done (f ∙ ap refusal (held_is s t))))
+  by_reading true true t u = absurd (false≢true (sym u ∙ d ∙ ap is_done (f ∙ ap refusal (held_is s t))))
   by_reading true false t u = refl
   by_reading false true t u = refl
   by_reading false false t u =
-      absurd (false≢true (sym (not_done (ended_by (ended_in s) (index_in s))) ∙ ap is_done (sym (f ∙ ap refusal (ended_is s t))) ∙ sym d ∙ not-false b u))
+      absurd (false≢true (sym (not_done (ended_by (ended_in s) (index_in s))) ∙ ap is_done (sym (f ∙ ap refusal (ended_is s t))) ∙ sym d ∙ u))
 
-  pub goes_on : not b ≡ false → is_reading s ≡ true
+  pub goes_on : b ≡ true → is_reading s ≡ true
   goes_on u = by_reading (is_reading s) false refl u
 
-  pub has_ended : not b ≡ true → is_reading s ≡ false
+  pub has_ended : b ≡ false → is_reading s ≡ false
   has_ended u = by_reading (is_reading s) true refl u
 
 -- ---- how many bytes are wanted
@@ -124,24 +124,24 @@ pub wanted_17 : (s : List ℕ) → (length s ≡ reader_length → ⊥) → 0 �
 wanted_17 s l = rw (ne_eqb (length s) reader_length l)
 
 module _ (s : List ℕ) {b : Bool} (l : length s ≡ reader_length) (r : b ≡ is_reading s) where
-  pub wanted_none : not b ≡ true → 0 ≡ wanted_in s
-  wanted_none t = rw (eq-eqb (length s) reader_length l, ended_is s (sym r ∙ not-true b t))
+  pub wanted_none : b ≡ false → 0 ≡ wanted_in s
+  wanted_none t = rw (eq-eqb (length s) reader_length l, ended_is s (sym r ∙ t))
 
-  pub wanted_ends : {ends : ℕ} → not b ≡ false → ends ≡ ends_in s → ends ≤ 6
-  wanted_ends t d = let h = holds s (sym r ∙ not-false b t) in omega arith
+  pub wanted_ends : {ends : ℕ} → b ≡ true → ends ≡ ends_in s → ends ≤ 6
+  wanted_ends t d = let h = holds s (sym r ∙ t) in omega arith
 
-  pub wanted_status : {status : ℕ} → not b ≡ false → status ≡ status_in s → status ≤ 96
-  wanted_status t d = let h = holds s (sym r ∙ not-false b t) in omega arith
+  pub wanted_status : {status : ℕ} → b ≡ true → status ≡ status_in s → status ≤ 96
+  wanted_status t d = let h = holds s (sym r ∙ t) in omega arith
 
-  module _ {ends status : ℕ} (t : not b ≡ false) (d : ends ≡ ends_in s) (u : status ≡ status_in s) where
+  module _ {ends status : ℕ} (t : b ≡ true) (d : ends ≡ ends_in s) (u : status ≡ status_in s) where
     module _ {long held : ℕ} (n : long ≡ record_length (narrow ends status)) (h : held ≡ held_in s) where
       pub wanted_some : long - held ≡ wanted_in s
       wanted_some =
-          let y = sym r ∙ not-false b t in
+          let y = sym r ∙ t in
           rw (eq-eqb (length s) reader_length l, held_is s y, hand_length s l y, n, d, u, h)
 
       pub wanted_less : held ≤ long
-      wanted_less = let k = (holds s (sym r ∙ not-false b t)).short in rw (n, d, u, h) (omega arith)
+      wanted_less = let k = (holds s (sym r ∙ t)).short in rw (n, d, u, h) (omega arith)
 
 -- ---- the frame that is shown
 

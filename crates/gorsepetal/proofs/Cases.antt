@@ -2,8 +2,8 @@
 use Prim.Native.Nat.{ℕ, ◌*◌, ◌≤◌, ◌<◌}
 use mathlib.Core.Path.{◌≡◌, refl, sym, ◌∙◌, ap, ap₂}
 use mathlib.Core.List.{List}
-use mathlib.Core.Bool.{Bool, true, false, not, cond}
-use borrow.Author.Tests.{eq-eqb, ne_eqb, le-leb, lt-leb, not-true, not-false}
+use mathlib.Core.Bool.{Bool, true, false, cond}
+use borrow.Author.Tests.{eq-eqb, ne_eqb, le-leb, lt-leb}
 use lib.IntN.{ℤ}
 use lib.ListN.{length}
 use Rattle.answers.specs.declared.Answer.{Answer}
@@ -48,57 +48,57 @@ module _ {s e after : List ℕ} {n : ℕ} where
             state = k ∙ ap (λ (z : List ℕ). cond x (emptied z) z) q ∙ sym (ap₂ (λ (i j : Bool). cond i (cond j (emptied (confirmed_pair s e)) (confirmed_pair s e)) s) t h);
           }
 
-      pub confirm_done : not b ≡ false → after ≡ emptied left → Confirmed s e n after
-      confirm_done y k = confirmed true (not-false b y) k
+      pub confirm_done : b ≡ true → after ≡ emptied left → Confirmed s e n after
+      confirm_done y k = confirmed true y k
 
-      pub confirm_refused : not b ≡ true → after ≡ left → Confirmed s e n after
-      confirm_refused r k = confirmed false (not-true b r) k
+      pub confirm_refused : b ≡ false → after ≡ left → Confirmed s e n after
+      confirm_refused r k = confirmed false r k
 
   -- `e` is the lent buffer here
   pub read_17 : (length s ≡ state_length → ⊥) → n ≡ 17 → after ≡ e → ReadBack s e n after
   read_17 l g k = let t = ne_eqb (length s) state_length l in record { given = rw t g; buffer = rw t k }
 
   module _ {v : Answer} {b : Bool} (l : length s ≡ state_length) (f : v ≡ in_force s) (d : b ≡ is_done v) where
-    pub read_1 : not b ≡ true → n ≡ given_back v → after ≡ e → ReadBack s e n after
+    pub read_1 : b ≡ false → n ≡ given_back v → after ≡ e → ReadBack s e n after
     read_1 r g k =
         let t = eq-eqb (length s) state_length l in
-        let h : is_done v ≡ false = sym d ∙ not-true b r in
+        let h : is_done v ≡ false = sym d ∙ r in
         record { given = rw (t, ← f, h) g; buffer = rw (t, ← f, h, h) k }
 
-    pub read_3 : not b ≡ false → length e < 32 → n ≡ 3 → after ≡ e → ReadBack s e n after
+    pub read_3 : b ≡ true → length e < 32 → n ≡ 3 → after ≡ e → ReadBack s e n after
     read_3 y r g k =
         let t = eq-eqb (length s) state_length l in
-        let h : is_done v ≡ true = sym d ∙ not-false b y in
+        let h : is_done v ≡ true = sym d ∙ y in
         let w = lt-leb 32 (length e) r in
         record { given = rw (t, ← f, h, w) g; buffer = rw (t, ← f, h, w) k }
 
-    pub read_0 : not b ≡ false → 32 ≤ length e → n ≡ 0 → after ≡ over e 0 (settings_of s).force → ReadBack s e n after
+    pub read_0 : b ≡ true → 32 ≤ length e → n ≡ 0 → after ≡ over e 0 (settings_of s).force → ReadBack s e n after
     read_0 y r g k =
         let t = eq-eqb (length s) state_length l in
-        let h : is_done v ≡ true = sym d ∙ not-false b y in
+        let h : is_done v ≡ true = sym d ∙ y in
         let w = le-leb 32 (length e) r in
         record { given = rw (t, ← f, h, w) g; buffer = rw (t, ← f, h, w) k }
 
 -- a record that counts is in range
 module _ {r : List ℕ} {v : Answer} {b : Bool} where
-  pub counts : v ≡ entry.of_stored (verdict r) NoSettings → b ≡ is_done v → not b ≡ false → Ranges r
-  counts f d y = in_range r (stored_done (verdict r) NoSettings refl (sym f ∙ done_is v (sym d ∙ not-false b y)))
+  pub counts : v ≡ entry.of_stored (verdict r) NoSettings → b ≡ is_done v → b ≡ true → Ranges r
+  counts f d y = in_range r (stored_done (verdict r) NoSettings refl (sym f ∙ done_is v (sym d ∙ y)))
 
 module _ {s out after : List ℕ} {w : List ℤ} where
   pub decide_17 : (length s ≡ state_length → ⊥) → after ≡ out → DecidedNumbers s w out NoRelay after
   decide_17 l k = let t = ne_eqb (length s) state_length l in record { answer = rw t; buffer = rw t k }
 
   module _ {a v : Answer} {b : Bool} (l : length s ≡ state_length) (f : v ≡ in_force s) (d : b ≡ is_done v) where
-    pub decide_1 : not b ≡ true → a ≡ v → after ≡ out → DecidedNumbers s w out a after
+    pub decide_1 : b ≡ false → a ≡ v → after ≡ out → DecidedNumbers s w out a after
     decide_1 r g k =
         let t = eq-eqb (length s) state_length l in
-        let h : is_done v ≡ false = sym d ∙ not-true b r in
+        let h : is_done v ≡ false = sym d ∙ r in
         record { answer = rw (t, ← f, h) g; buffer = rw (t, ← f, h, h) k }
 
-    pub decide_on : not b ≡ false → decision.Decided (settings_of s).force w out a after → DecidedNumbers s w out a after
+    pub decide_on : b ≡ true → decision.Decided (settings_of s).force w out a after → DecidedNumbers s w out a after
     decide_on y p =
         let t = eq-eqb (length s) state_length l in
-        let h : is_done v ≡ true = sym d ∙ not-false b y in
+        let h : is_done v ≡ true = sym d ∙ y in
         record { answer = rw (t, ← f, h) p.answer; buffer = rw (t, ← f, h, ← p.answer) p.buffer }
 
 -- a frame
@@ -107,16 +107,16 @@ module _ {s f out s₁ out₁ : List ℕ} {n : ℕ} where
   feed_17 l g k o = let t = ne_eqb (length s) state_length l in record { given = rw t g; state = rw t k; buffer = rw t o }
 
   module _ {v : Answer} {b : Bool} (l : length s ≡ state_length) (e : v ≡ in_force s) (d : b ≡ is_done v) where
-    pub feed_1 : not b ≡ true → n ≡ given_back v → s₁ ≡ s → out₁ ≡ out → Fed s f out n s₁ out₁
+    pub feed_1 : b ≡ false → n ≡ given_back v → s₁ ≡ s → out₁ ≡ out → Fed s f out n s₁ out₁
     feed_1 r g k o =
         let t = eq-eqb (length s) state_length l in
-        let h : is_done v ≡ false = sym d ∙ not-true b r in
+        let h : is_done v ≡ false = sym d ∙ r in
         record { given = rw (t, ← e, h, h) g; state = rw (t, ← e, h, h) k; buffer = rw (t, ← e, h, h, h) o }
 
-    pub feed_on : {a : Answer} → not b ≡ false → n ≡ given_back a → feed.Fed window_offset s f out a s₁ out₁ → Fed s f out n s₁ out₁
+    pub feed_on : {a : Answer} → b ≡ true → n ≡ given_back a → feed.Fed window_offset s f out a s₁ out₁ → Fed s f out n s₁ out₁
     feed_on y g p =
         let t = eq-eqb (length s) state_length l in
-        let h : is_done v ≡ true = sym d ∙ not-false b y in
+        let h : is_done v ≡ true = sym d ∙ y in
         record { given = rw (t, ← e, h) (g ∙ ap given_back p.answer); state = rw (t, ← e, h) p.state; buffer = rw (t, ← e, h) p.buffer }
 
 -- how many bytes a window has
@@ -125,8 +125,8 @@ module _ (s : List ℕ) where
   bytes_17 l = rw (ne_eqb (length s) state_length l)
 
   module _ {v : Answer} {b : Bool} (l : length s ≡ state_length) (f : v ≡ in_force s) (d : b ≡ is_done v) where
-    pub bytes_1 : not b ≡ true → 0 ≡ window_bytes s
-    bytes_1 r = let h : is_done v ≡ false = sym d ∙ not-true b r in rw (eq-eqb (length s) state_length l, ← f, h)
+    pub bytes_1 : b ≡ false → 0 ≡ window_bytes s
+    bytes_1 r = let h : is_done v ≡ false = sym d ∙ r in rw (eq-eqb (length s) state_length l, ← f, h)
 
-    pub bytes_0 : {n : ℕ} → not b ≡ false → n ≡ window_length (ends (settings_of s).force) → 2 * n ≡ window_bytes s
-    bytes_0 y e = let h : is_done v ≡ true = sym d ∙ not-false b y in rw (eq-eqb (length s) state_length l, ← f, h, e)
+    pub bytes_0 : {n : ℕ} → b ≡ true → n ≡ window_length (ends (settings_of s).force) → 2 * n ≡ window_bytes s
+    bytes_0 y e = let h : is_done v ≡ true = sym d ∙ y in rw (eq-eqb (length s) state_length l, ← f, h, e)

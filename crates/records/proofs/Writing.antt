@@ -2,9 +2,9 @@
 use Prim.Native.Nat.{ℕ, ◌+◌, ◌*◌, ◌<◌, ◌≤◌}
 use mathlib.Core.Path.{◌≡◌, refl, sym, ap, ◌∙◌}
 use mathlib.Core.List.{List, ◌++◌}
-use mathlib.Core.Bool.{Bool, true, false, not, ◌&&◌, false≢true}
+use mathlib.Core.Bool.{Bool, true, false, ◌&&◌, false≢true}
 use native.Mathlib.Omega.{arith}
-use borrow.Author.Tests.{eq-eqb, ne_eqb, le-leb, lt-leb, lt-ltb, le-ltb, leb-true, not-true, not-false}
+use borrow.Author.Tests.{eq-eqb, ne_eqb, le-leb, lt-leb, lt-ltb, le-ltb, leb-true}
 use lib.Dec.{leb}
 use lib.ListN.{length}
 use Rattle.answers.specs.declared.Answer.TheVariants.{Done, NoRoom, OtherFrameLength, OtherNumber, BadFile}
@@ -29,21 +29,21 @@ good_file_lem ends status t =
     (k.0, k.1, leb-true status 96 h.1)
 
 -- the test passed
-pub good_range : (ends status : ℕ) {b : Bool} → b ≡ good_file ends status → not b ≡ false → (ends ≤ 6) × (status ≤ 96)
-good_range ends status {b} e t = let h = good_file_lem ends status (sym e ∙ not-false b t) in (h.1, h.2)
+pub good_range : (ends status : ℕ) {b : Bool} → b ≡ good_file ends status → b ≡ true → (ends ≤ 6) × (status ≤ 96)
+good_range ends status {b} e t = let h = good_file_lem ends status (sym e ∙ t) in (h.1, h.2)
 
 module _ (ends : ℕ) {b : Bool} (e : b ≡ good_ends ends) where
-  yes : not b ≡ false → good_ends ends ≡ true
-  yes good = sym e ∙ not-false b good
+  yes : b ≡ true → good_ends ends ≡ true
+  yes good = sym e ∙ good
 
-  pub write_most : not b ≡ false → ends ≤ 6
+  pub write_most : b ≡ true → ends ≤ 6
   write_most good = (good_ends_lem ends (yes good)).1
 
   module _ {written time : ℕ} {frame out : List ℕ} where
-    pub write_13 : not b ≡ true → Wrote ends written time frame out BadFile out
-    write_13 t = let v = sym e ∙ not-true b t in record { answer = rw v; buffer = rw v }
+    pub write_13 : b ≡ false → Wrote ends written time frame out BadFile out
+    write_13 t = let v = sym e ∙ t in record { answer = rw v; buffer = rw v }
 
-    module _ (good : not b ≡ false) where
+    module _ (good : b ≡ true) where
       pub write_9 : (length frame ≡ 2 * channels ends → ⊥) → Wrote ends written time frame out OtherFrameLength out
       write_9 f = let l = ne_eqb (length frame) (2 * channels ends) f in record { answer = rw (yes good, l); buffer = rw (yes good, l) }
 

@@ -4,4 +4,4 @@ use Rattle.records.proofs.good_ends.Statement.{statement}
 use Rattle.records.proofs.good_ends.Tie as tie
 
 pub good_ends_spec : {M : Type 1} → statement M
-good_ends_spec = tie.close (tie.spec (λ c. rw (lt-leb 2 _ c.if1.true)) (λ c. rw (le-leb 2 _ c.if1.false)))
+good_ends_spec = tie.close (tie.spec (λ c. rw (lt-leb 2 _ c.if-ends-lt-FEWEST_ENDS.true)) (λ c. rw (le-leb 2 _ c.if-ends-lt-FEWEST_ENDS.false)))

@@ -1,15 +1,14 @@
 -- `records::good_file` meets its contract: the ends, then the status channels.
 use mathlib.Core.Path.{sym, ◌∙◌}
 use borrow.Author.Rules.{rules}
-use borrow.Author.Tests.{not-true, not-false}
 use Rattle.records.proofs.good_file.Statement.{statement}
 use Rattle.records.proofs.good_file.Tie as tie
 
-returns : tie.Need-returns
-returns c = rw (sym c.before.good_ends.ensures ∙ not-true _ c.if1.true)
+returns : tie.Need-returns-then-not-good_ends
+returns c = rw (sym c.before.good_ends.ensures ∙ c.if-not-good_ends.true)
 
-returns-2 : tie.Need-returns-2
-returns-2 c = rw (sym c.before.good_ends.ensures ∙ not-false _ c.if1.false)
+returns-2 : tie.Need-returns
+returns-2 c = rw (sym c.before.good_ends.ensures ∙ c.if-not-good_ends.false)
 
 pub good_file_spec : {M : Type 1} → statement M
 good_file_spec = tie.close (tie.spec (λ c κs. search rules) returns returns-2)

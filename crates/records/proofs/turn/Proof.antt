@@ -12,22 +12,22 @@ use Rattle.records.proofs.Swapped.{turned}
 use Rattle.records.proofs.turn.Statement.{statement}
 use Rattle.records.proofs.turn.Tie as tie
 
-abbrev invariant-loop : tie.invariant-loop
+abbrev invariant-loop : tie.invariant-loop-i
 invariant-loop dst₀ at src n i₀ dst i = (i ≤ n) × (dst ≡ over dst₀ at (swapped (take (2 * i) src))) × (length dst ≡ length dst₀)
 
-abbrev decreases-loop : tie.decreases-loop
+abbrev decreases-loop : tie.decreases-loop-i
 decreases-loop dst₀ at src n i₀ dst i = n - i
 
-loop-holds : tie.Need-loop-init invariant-loop decreases-loop
+loop-holds : tie.Need-loop-i-init invariant-loop decreases-loop
 unfolding swapped
 loop-holds c = (search rules, over_none c.args.dst.now c.args.at, refl)
 
-slice-write-dst-2 : tie.Need-slice-write-dst-2 invariant-loop decreases-loop
+slice-write-dst-2 : tie.Need-bounds-dst-at-in-loop-i invariant-loop decreases-loop
 slice-write-dst-2 c = simp length-set (omega arith)
 
-loop-again : tie.Need-loop-preserved invariant-loop decreases-loop
+loop-again : tie.Need-loop-i-preserved invariant-loop decreases-loop
 loop-again c =
-    let l = c.before.before.before.loop in
+    let l = c.before.before.before.loop-i in
     let a = c.before.before.before.before.args in (
       search rules,
       turned a.dst.now l.dst a.src.now a.at l.i (omega arith) (omega arith) l.invariant.2 l.invariant.1,
@@ -36,7 +36,7 @@ loop-again c =
 
 returns : tie.Need-returns invariant-loop decreases-loop
 returns c =
-    let l = c.before.loop in
+    let l = c.before.loop-i in
     let a = c.before.before.args in
     let all : 2 * l.i ≡ length a.src.now = omega arith in
     l.invariant.1 ∙ rw (all, take-length a.src.now)

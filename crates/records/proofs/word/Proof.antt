@@ -8,10 +8,10 @@ use Rattle.records.proofs.word.Tie as tie
 returns : tie.Need-returns
 unfolding word_at
 returns c =
-    let b0 = c.before.before.before.before.before.before.wide.ensures in
-    let b1 = c.before.before.before.before.wide2.ensures in
-    let b2 = c.before.before.wide3.ensures in
-    let b3 = c.wide4.ensures in
+    let b0 = c.before.before.before.before.before.before.wide-b0.ensures in
+    let b1 = c.before.before.before.before.wide-b1.ensures in
+    let b2 = c.before.before.wide-b2.ensures in
+    let b3 = c.wide-b3.ensures in
     (rw (b0.0, b1.0, b2.0, b3.0), omega (arith, b0, b1, b2, b3))
 
 pub word_spec : {M : Type 1} → statement M

@@ -5,14 +5,14 @@ use Rattle.records.proofs.Writing.{write_most, write_13, write_9, write_3, write
 use Rattle.records.proofs.write.Statement.{statement}
 use Rattle.records.proofs.write.Tie as tie
 
-mul-n : tie.Need-overflow-mul-n
-mul-n c = let h = write_most c.before.before.before.before.args.ends c.before.good_ends.ensures c.if1.false in omega (arith, h)
+mul-n : tie.Need-overflow_mul-n
+mul-n c = let h = write_most c.before.before.before.before.args.ends c.before.good_ends.ensures c.if-not-good_ends.false in omega (arith, h)
 
-add-n : tie.Need-overflow-add-n
-add-n c = let h = write_most c.before.before.before.before.args.ends c.before.good_ends.ensures c.if1.false in omega (arith, h)
+add-n : tie.Need-overflow_add-n
+add-n c = let h = write_most c.before.before.before.before.args.ends c.before.good_ends.ensures c.if-not-good_ends.false in omega (arith, h)
 
-mul-if2 : tie.Need-overflow-mul-if2
-mul-if2 c = let h = write_most c.before.before.before.before.args.ends c.before.good_ends.ensures c.if1.false in omega (arith, h)
+mul-if2 : tie.Need-overflow_mul-n-2
+mul-if2 c = let h = write_most c.before.before.before.before.args.ends c.before.good_ends.ensures c.if-not-good_ends.false in omega (arith, h)
 
 pub write_spec : {M : Type 1} → statement M
 write_spec =
