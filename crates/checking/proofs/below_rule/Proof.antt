@@ -5,10 +5,10 @@ use Rattle.checking.proofs.Chain.{stays, decides}
 use Rattle.checking.proofs.below_rule.Statement.{statement}
 use Rattle.checking.proofs.below_rule.Tie as tie
 
-decided : tie.Need-returns-2
+decided : tie.Need-returns-in-Good
 decided c =
-    let x = c.before.before.signed-field in
-    let y = c.before.signed-field2 in
+    let x = c.before.before.signed_field in
+    let y = c.before.signed_field-in-Good in
     let h = simp (back x.result x.type_inv, back y.result y.type_inv) at c.judged.ensures in
     decides _ _ _ _ (search rules) (rw (x.ensures, y.ensures) at h)
 

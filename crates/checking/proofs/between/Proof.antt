@@ -4,4 +4,4 @@ use Rattle.checking.proofs.between.Statement.{statement}
 use Rattle.checking.proofs.between.Tie as tie
 
 pub between_spec : {M : Type 1} → statement M
-between_spec = tie.close (tie.spec (λ c. simp (le-leb _ _ c.if1.true)) (λ c. simp (lt-leb _ _ c.if1.false)))
+between_spec = tie.close (tie.spec (λ c. simp (le-leb _ _ c.if-low-v.true)) (λ c. simp (lt-leb _ _ c.if-low-v.false)))

@@ -4,7 +4,7 @@ use Rattle.checking.proofs.Chain.{stays, decides}
 use Rattle.checking.proofs.byte_rule.Statement.{statement}
 use Rattle.checking.proofs.byte_rule.Tie as tie
 
-decided : tie.Need-returns-2
+decided : tie.Need-returns-in-Good
 decided c =
     decides _ _ _ _ (search rules) (rw (c.before.between.ensures, c.before.before.byte.ensures.0) at c.judged.ensures)
 

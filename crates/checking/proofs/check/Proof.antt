@@ -11,7 +11,7 @@ unfolding settings_table
 returns c =
     let d = c.before.before.before.before in
     along_table _ (omega arith)
-    (rw (c.tail-part.ensures, c.before.direction-part.ensures, c.before.before.angle-part.ensures, c.before.before.before.distance-part.ensures, d.differential-part.ensures))
+    (rw (c.tail_part.ensures, c.before.direction_part-found.ensures, c.before.before.angle_part-found.ensures, c.before.before.before.distance_part-found.ensures, d.differential_part-found.ensures))
 
 pub check_spec : {M : Type 1} → statement M
 check_spec =

@@ -6,4 +6,4 @@ use Rattle.checking.proofs.off_or_between.Tie as tie
 pub off_or_between_spec : {M : Type 1} → statement M
 off_or_between_spec =
     tie.close
-    (tie.spec (λ c κs. tt) (λ c. simp (eq-eqb _ _ c.if1.true)) (λ c. simp (ne_eqb _ _ c.before.if1.false) c.between.ensures))
+    (tie.spec (λ c κs. tt) (λ c. simp (eq-eqb _ _ c.if-v-eq0.true)) (λ c. simp (ne_eqb _ _ c.before.if-v-eq0.false) c.between.ensures))

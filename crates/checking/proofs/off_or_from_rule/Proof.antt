@@ -4,11 +4,11 @@ use Rattle.checking.proofs.Chain.{stays, decides}
 use Rattle.checking.proofs.off_or_from_rule.Statement.{statement}
 use Rattle.checking.proofs.off_or_from_rule.Tie as tie
 
-decided : tie.Need-returns-2
+decided : tie.Need-returns-in-Good
 decided c =
     let b = c.before in
     decides _ _ _ _ (search rules)
-    (rw (b.off-or-between.ensures, b.before.field2.ensures.0, b.before.before.field.ensures.0) at c.judged.ensures)
+    (rw (b.off_or_between.ensures, b.before.field-in-Good.ensures.0, b.before.before.field.ensures.0) at c.judged.ensures)
 
 pub off_or_from_rule_spec : {M : Type 1} → statement M
 off_or_from_rule_spec =

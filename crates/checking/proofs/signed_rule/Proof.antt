@@ -6,11 +6,11 @@ use Rattle.checking.proofs.Chain.{stays, decides}
 use Rattle.checking.proofs.signed_rule.Statement.{statement}
 use Rattle.checking.proofs.signed_rule.Tie as tie
 
-decided : tie.Need-returns-2
+decided : tie.Need-returns-in-Good
 decided c =
     let f = c.before.before.before.before.before.before.ranges in
-    let v = c.before.before.signed-field in
-    let h = simp (to_z-of_z f.low, to_z-of_z f.high, back v.result v.type_inv) at c.before.between-signed.ensures in
+    let v = c.before.before.signed_field in
+    let h = simp (to_z-of_z f.low, to_z-of_z f.high, back v.result v.type_inv) at c.before.between_signed.ensures in
     decides _ _ _ _ (search rules) (rw (h, v.ensures) at c.judged.ensures)
 
 pub signed_rule_spec : {M : Type 1} → statement M

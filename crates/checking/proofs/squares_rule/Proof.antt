@@ -4,12 +4,12 @@ use Rattle.checking.proofs.Chain.{stays, decides}
 use Rattle.checking.proofs.squares_rule.Statement.{statement}
 use Rattle.checking.proofs.squares_rule.Tie as tie
 
-decided : tie.Need-returns-2
+decided : tie.Need-returns-in-Good
 decided c =
     let b = c.before in
     let x = b.before.before.before in
     decides _ _ _ _ (search rules)
-    (rw (b.between.ensures, b.before.sum-of-squares.ensures, x.field.ensures.0, b.before.before.field2.ensures.0) at c.judged.ensures)
+    (rw (b.between.ensures, b.before.sum_of_squares-sum.ensures, x.field.ensures.0, b.before.before.field-in-Good.ensures.0) at c.judged.ensures)
 
 pub squares_rule_spec : {M : Type 1} → statement M
 squares_rule_spec =

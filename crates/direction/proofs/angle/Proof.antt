@@ -9,7 +9,7 @@ use Rattle.direction.proofs.angle.Tie as tie
 
 returns : tie.Need-returns
 returns c =
-    let re = c.before.angle-real in let im = c.angle-imaginary in
+    let re = c.before.angle_real-re in let im = c.angle_imaginary-im in
     two_fields (Inside most_angle) (angle_inside c.before.before.before.requires) re.type_inv im.type_inv re.ensures im.ensures
 
 pub angle_spec : {M : Type 1} → statement M

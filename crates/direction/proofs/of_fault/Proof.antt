@@ -14,8 +14,8 @@ use Rattle.direction.proofs.of_fault.Tie as tie
 
 -- on which side T lies, by the record
 sides :
-    (c : tie.After-side) → let a = c.before.before.before.before.before.before.before.before.before.args in
-    c.side.result ≡ side_of (forward_limit a.s.now) (reverse_limit a.s.now) (torque (angle a.s.now) a.v2 a.i2) (squared a.i2)
+    (c : tie.After-side-direction) → let a = c.before.before.before.before.before.before.before.before.before.args in
+    c.side-direction.result ≡ side_of (forward_limit a.s.now) (reverse_limit a.s.now) (torque (angle a.s.now) a.v2 a.i2) (squared a.i2)
 sides c =
     let q = c.before in
     let t = q.before in
@@ -23,19 +23,19 @@ sides c =
     let r = g.before in
     let f = r.before in
     let a = f.before.before.before.before.args in
-    let zf = f.forward-limit in
-    let zr = r.reverse-limit in
-    let T = t.torque.ensures ∙ ap (λ (d : Phasor). torque d a.v2 a.i2) g.angle.ensures.0 in
-    (simp (back zf.result zf.type_inv, back zr.result zr.type_inv, back t.torque.result t.torque.type_inv, back q.square.result q.square.type_inv) at c.side.ensures)
+    let zf = f.forward_limit-zf in
+    let zr = r.reverse_limit-zr in
+    let T = t.torque-t.ensures ∙ ap (λ (d : Phasor). torque d a.v2 a.i2) g.angle.ensures.0 in
+    (simp (back zf.result zf.type_inv, back zr.result zr.type_inv, back t.torque-t.result t.torque-t.type_inv, back q.square.result q.square.type_inv) at c.side-direction.ensures)
     ∙ (λ k. side_of (zf.ensures k) (zr.ensures k) (T k) (q.square.ensures k))
 
-side-requires : tie.Need-side-requires
+side-requires : tie.Need-side-direction-requires
 side-requires c κs =
     let r = c.before.before.before in
     let f = r.before in
     let h = f.before.before.before.before.requires in
-    let zf = f.forward-limit in
-    let zr = r.reverse-limit in
+    let zf = f.forward_limit-zf in
+    let zr = r.reverse_limit-zr in
     let q = c.square in
     simp (back zf.result zf.type_inv, back zr.result zr.type_inv, back q.result q.type_inv) (
       along zf.ensures (forward_within h.0),
@@ -43,16 +43,16 @@ side-requires c κs =
       wider (along q.ensures (within_dot h.2 h.2)) tt,
     )
 
-returns : tie.Need-returns
+returns : tie.Need-returns-then-reaches_pickup
 unfolding direction_of
 returns c =
     let then = c.before.before.before.before.before.before in
-    let reached = sym then.before.reaches-pickup.ensures ∙ then.if1.true in
+    let reached = sym then.before.reaches_pickup.ensures ∙ then.if-reaches_pickup.true in
     (sym reached, rw reached (sides c))
 
-returns-2 : tie.Need-returns-2
+returns-2 : tie.Need-returns-else-reaches_pickup
 unfolding direction_of
-returns-2 c = let not_reached = sym c.before.reaches-pickup.ensures ∙ c.if1.false in (sym not_reached, rw not_reached)
+returns-2 c = let not_reached = sym c.before.reaches_pickup.ensures ∙ c.if-reaches_pickup.false in (sym not_reached, rw not_reached)
 
 pub of_fault_spec : {M : Type 1} → statement M
 of_fault_spec =

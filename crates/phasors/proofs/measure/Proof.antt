@@ -10,13 +10,13 @@ use Rattle.phasors.proofs.measure.Statement.{statement}
 use Rattle.phasors.proofs.measure.Tie as tie
 
 sums-requires : tie.Need-sums-requires
-sums-requires c κs = rw c.before.cosines.ensures (search rules)
+sums-requires c κs = rw c.before.cosines-coefficients.ensures (search rules)
 
 -- what `sums` gives over the cosines
 cycle :
     (c : tie.After-sums) → let a = c.before.before.before.args in
     Cycle sixteen (sample a.window.now a.channels a.channel) c.sums.result
-cycle c = rw c.before.before.cosines.ensures at c.sums.ensures
+cycle c = rw c.before.before.cosines-coefficients.ensures at c.sums.ensures
 
 rounded-requires : tie.Need-rounded-requires
 rounded-requires c κs =

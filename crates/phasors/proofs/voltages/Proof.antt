@@ -5,10 +5,10 @@ use Rattle.phasors.proofs.voltages.Tie as tie
 
 returns : tie.Need-returns
 returns c =
-    let n = c.before.before.before.channels.ensures in
-    let va = rw n at c.before.before.measure.ensures in
-    let vb = rw n at c.before.measure2.ensures in
-    let vc = rw n at c.measure3.ensures in (
+    let n = c.before.before.before.channels-channels.ensures in
+    let va = rw n at c.before.before.measure-a.ensures in
+    let vb = rw n at c.before.measure-b.ensures in
+    let vc = rw n at c.measure-c.ensures in (
       (λ i. record { a = va.0 i; b = vb.0 i; c = vc.0 i }),
       record { inside_a = va.1; inside_b = vb.1; inside_c = vc.1 },
     )

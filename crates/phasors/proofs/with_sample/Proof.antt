@@ -23,20 +23,20 @@ widened f = simp (to_z-of_z f) (fit (fitted f) tt)
 widened_is : {z : ℤ} → SFits w16 z → to_z w64 (of_z w64 (to_z w16 (of_z w16 z))) ≡ z
 widened_is f = to_z-of_z (widened f) ∙ to_z-of_z f
 
-mul-re : tie.Need-overflow-mul-re
+mul-re : tie.Need-overflow_mul-re
 mul-re c = let f = c.ranges in simp (widened_is f.x, widened_is f.c) (fit (product f.x f.c) tt)
 
-add-re : tie.Need-overflow-add-re
+add-re : tie.Need-overflow_add-re
 add-re c =
     let s = c.before.before in
     let p = product s.ranges.x s.ranges.c in
     simp (widened_is s.ranges.x, widened_is s.ranges.c, rd s.requires.real tt, rd p tt) (fit (add s.requires.real p) tt)
 
-mul-im : tie.Need-overflow-mul-im
+mul-im : tie.Need-overflow_mul-im
 mul-im c =
     let f = c.before.before.ranges in simp (widened_is f.x, widened_is f.s) (fit (product f.x f.s) tt)
 
-sub-im : tie.Need-overflow-sub-im
+sub-im : tie.Need-overflow_sub-im
 sub-im c =
     let s = c.before.before.before.before in
     let p = product s.ranges.x s.ranges.s in

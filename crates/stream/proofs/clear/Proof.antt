@@ -6,7 +6,7 @@ use Rattle.stream.proofs.clear.Tie as tie
 returns : tie.Need-returns
 returns c =
     let p = c.before.before in
-    rw (p.put-bytes.ensures, p.before.before.empty.ensures)
+    rw (p.put_bytes.ensures, p.before.before.empty.ensures)
 
 pub clear_spec : {M : Type 1} → statement M
 clear_spec = tie.close (tie.spec (λ c κs. search rules) (λ c κs. search rules) (λ c. search rules) returns)

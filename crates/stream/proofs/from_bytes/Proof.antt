@@ -21,8 +21,8 @@ returns c =
     let q = p.before.before.before in
     let s = q.before.before.before.before in
     let at = s.args.at in
-    read s.args.state.now at s.requires (at + stored_length - (at + 2)) p.numbers2.new.1.0 q.word.result (omega arith)
-    (search rules) p.numbers2.ensures q.word.ensures
+    read s.args.state.now at s.requires (at + stored_length - (at + 2)) p.numbers.new.1.0 q.word-count.result (omega arith)
+    (search rules) p.numbers.ensures q.word-count.ensures
 
 pub from_bytes_spec : {M : Type 1} → statement M
 from_bytes_spec =

@@ -12,8 +12,8 @@ returns c =
     let q = c.before.before in
     let p = q.before.before.before.before.before in
     let a = p.before.before.before.args in
-    rw (q.put-numbers.ensures, p.put_word.ensures)
-    (over_over a.state.now a.at (word a.w.count) (omega arith) (bytes_of (take a.k a.w.numbers)))
+    rw (q.put_numbers.ensures, p.put_word.ensures)
+    (over_over a.state.now a.at (word a.w.count) (omega arith) (bytes_of (take a.k a.w.numbers-1)))
 
 pub put_first_spec : {M : Type 1} → statement M
 put_first_spec =

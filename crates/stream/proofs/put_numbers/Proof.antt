@@ -12,25 +12,25 @@ use Rattle.stream.proofs.Bytes.{put_none, put_more}
 use Rattle.stream.proofs.put_numbers.Statement.{statement}
 use Rattle.stream.proofs.put_numbers.Tie as tie
 
-abbrev invariant-loop : tie.invariant-loop
+abbrev invariant-loop : tie.invariant-loop-i
 invariant-loop k state₀ at numbers i₀ state i = (i ≤ k) × (state ≡ over state₀ at (bytes_of (take i numbers))) × (length state ≡ length state₀)
 
-abbrev decreases-loop : tie.decreases-loop
+abbrev decreases-loop : tie.decreases-loop-i
 decreases-loop k state₀ at numbers i₀ state i = k - i
 
-loop-holds : tie.Need-loop-init invariant-loop decreases-loop
+loop-holds : tie.Need-loop-i-init invariant-loop decreases-loop
 loop-holds c = (search rules, put_none c.before.args.state.now c.before.args.at, refl)
 
-loop-again : tie.Need-loop-preserved invariant-loop decreases-loop
+loop-again : tie.Need-loop-i-preserved invariant-loop decreases-loop
 loop-again c =
     let l = c.before.before.before.before.before.before.before in
     let a = l.before.before.args in
     let full : length a.t1 ≡ window_length 6 = search rules in
     let p = c.before.before in
-    let bits = rw (to_z-of_z (sfits_of p.before.before.before.x.given)) at p.before.unsigned.ensures in (
+    let bits = rw (to_z-of_z (sfits_of p.before.before.before.x-1.given)) at p.before.unsigned.ensures in (
       search rules,
       rw bits at p.put_word.ensures
-          ∙ put_more a.state.now l.loop.state a.at a.t1 l.loop.i (omega arith) (omega arith) l.loop.invariant.1,
+          ∙ put_more a.state.now l.loop-i.state a.at a.t1 l.loop-i.i (omega arith) (omega arith) l.loop-i.invariant.1,
       search rules,
     )
 
@@ -38,8 +38,8 @@ returns : tie.Need-returns invariant-loop decreases-loop
 returns c =
     let l = c.before in
     let a = l.before.before.args in
-    let past : l.loop.i ≡ a.k = omega arith in
-    rw (← past) l.loop.invariant.1
+    let past : l.loop-i.i ≡ a.k = omega arith in
+    rw (← past) l.loop-i.invariant.1
 
 pub put_numbers_spec : {M : Type 1} → statement M
 put_numbers_spec =

@@ -6,7 +6,7 @@ use Rattle.stream.proofs.Bytes.{word_put}
 use Rattle.stream.proofs.put_word.Statement.{statement}
 use Rattle.stream.proofs.put_word.Tie as tie
 
-slice-write-state-2 : tie.Need-slice-write-state-2
+slice-write-state-2 : tie.Need-bounds-state-at-2
 slice-write-state-2 c = lt-length-set c.args.state.now c.args.at _ (omega arith)
 
 pub put_word_spec : {M : Type 1} → statement M

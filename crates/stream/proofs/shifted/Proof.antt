@@ -16,8 +16,8 @@ returns c =
     let a = p.before.before.before.before.args in
     let m : ℕ = a.channels in
     let full : length a.t1 ≡ window_length 6 = search rules in
-    moved frames m (frames * m - m) a.t1 _ a.frame.now p.copy.new.0 q.copy2.new.0 (omega arith) (omega arith) refl
-    (search rules) p.copy.ensures q.copy2.ensures
+    moved frames m (frames * m - m) a.t1 _ a.frame.now p.copy.new.0 q.copy-2.new.0 (omega arith) (omega arith) refl
+    (search rules) p.copy.ensures q.copy-2.ensures
 
 pub shifted_spec : {M : Type 1} → statement M
 shifted_spec =

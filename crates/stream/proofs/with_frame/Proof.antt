@@ -12,7 +12,7 @@ abbrev window : List ℤ → ℕ → Window
 window xs n = record { numbers = xs; count = n }
 
 returns : tie.Need-returns
-returns c = ap₂ window c.before.shifted.ensures c.counted.ensures
+returns c = ap₂ window c.before.shifted-numbers.ensures c.counted-count.ensures
 
 pub with_frame_spec : {M : Type 1} → statement M
 with_frame_spec = tie.close (tie.spec (λ c κs. search rules) (λ c κs. search rules) returns)

@@ -14,23 +14,23 @@ use Rattle.direction.proofs.sequence.sequence.Statement.{statement}
 use Rattle.direction.proofs.sequence.sequence.Tie as tie
 
 -- the three terms, and the first two
-first : (c : tie.After-scaled) → Inside (2 ^ 32) c.scaled.result
-first c = inside_along c.scaled.ensures (inside_wider (inside_scaled (lit (pos scale)) c.before.requires.2.inside_a) tt)
+first : (c : tie.After-scaled-first) → Inside (2 ^ 32) c.scaled-first.result
+first c = inside_along c.scaled-first.ensures (inside_wider (inside_scaled (lit (pos scale)) c.before.requires.2.inside_a) tt)
 
-second : (c : tie.After-times) → Inside (2 ^ 32) c.times.result
+second : (c : tie.After-times-second) → Inside (2 ^ 32) c.times-second.result
 second c =
     let h = c.before.before.requires in
-    inside_along c.times.ensures (inside_wider (inside_factor h.0.real h.0.imag h.2.inside_b) tt)
+    inside_along c.times-second.ensures (inside_wider (inside_factor h.0.real h.0.imag h.2.inside_b) tt)
 
-third : (c : tie.After-times2) → Inside (2 ^ 32) c.times2.result
+third : (c : tie.After-times-third) → Inside (2 ^ 32) c.times-third.result
 third c =
     let h = c.before.before.before.requires in
-    inside_along c.times2.ensures (inside_wider (inside_factor h.1.real h.1.imag h.2.inside_c) tt)
+    inside_along c.times-third.ensures (inside_wider (inside_factor h.1.real h.1.imag h.2.inside_c) tt)
 
 two : (c : tie.After-plus) → Inside (2 ^ 33) c.plus.result
 two c = inside_along c.plus.ensures (inside_plus (first c.before.before.before) (second c.before.before))
 
-scaled-requires : tie.Need-scaled-requires
+scaled-requires : tie.Need-scaled-first-requires
 scaled-requires c κs = (wider (lit (pos scale)) tt, inside_wider c.requires.2.inside_a tt)
 
 plus-requires : tie.Need-plus-requires
@@ -41,7 +41,7 @@ plus-requires-2 c κs = (inside_wider (two c) tt, inside_wider (third c.before) 
 
 rounded-requires : tie.Need-rounded-requires
 rounded-requires c κs =
-    (lt_z_yes tt, inside_along c.plus2.ensures (inside_wider (inside_plus (two c.before) (third c.before.before)) tt), wider (lit (pos scale)) tt)
+    (lt_z_yes tt, inside_along c.plus-2.ensures (inside_wider (inside_plus (two c.before) (third c.before.before)) tt), wider (lit (pos scale)) tt)
 
 returns : tie.Need-returns
 unfolding sequence
@@ -51,8 +51,8 @@ returns c =
     let t = p.before in
     let s = t.before.before in
     let h = s.before.requires in
-    let two_is = p.plus.ensures ∙ ap₂ plus s.scaled.ensures t.before.times.ensures in
-    let e = c.rounded.ensures ∙ ap (rounded scale) (q.plus2.ensures ∙ ap₂ plus two_is t.times2.ensures) in
+    let two_is = p.plus.ensures ∙ ap₂ plus s.scaled-first.ensures t.before.times-second.ensures in
+    let e = c.rounded.ensures ∙ ap (rounded scale) (q.plus-2.ensures ∙ ap₂ plus two_is t.times-third.ensures) in
     (e, inside_along e (sequence_inside h.0 h.1 h.2))
 
 pub sequence_spec : {M : Type 1} → statement M
