@@ -8,9 +8,9 @@ use Rattle.checking.proofs.signed_rule.Tie as tie
 
 decided : tie.Need-returns-in-Good
 decided c =
-    let f = c.before.before.before.before.before.before.ranges in
-    let v = c.before.before.signed_field in
-    let h = simp (to_z-of_z f.low, to_z-of_z f.high, back v.result v.type_inv) at c.before.between_signed.ensures in
+    let f = c.ranges in
+    let v = c.signed_field in
+    let h = simp (to_z-of_z f.low, to_z-of_z f.high, back v.result v.type_inv) at c.between_signed.ensures in
     decides _ _ _ _ (search rules) (rw (h, v.ensures) at c.judged.ensures)
 
 pub signed_rule_spec : {M : Type 1} → statement M

@@ -15,26 +15,26 @@ use Rattle.direction.proofs.sequence.sequence.Tie as tie
 
 -- the three terms, and the first two
 first : (c : tie.After-scaled-first) → Inside (2 ^ 32) c.scaled-first.result
-first c = inside_along c.scaled-first.ensures (inside_wider (inside_scaled (lit (pos scale)) c.before.requires.2.inside_a) tt)
+first c = inside_along c.scaled-first.ensures (inside_wider (inside_scaled (lit (pos scale)) c.requires.2.inside_a) tt)
 
 second : (c : tie.After-times-second) → Inside (2 ^ 32) c.times-second.result
 second c =
-    let h = c.before.before.requires in
+    let h = c.requires in
     inside_along c.times-second.ensures (inside_wider (inside_factor h.0.real h.0.imag h.2.inside_b) tt)
 
 third : (c : tie.After-times-third) → Inside (2 ^ 32) c.times-third.result
 third c =
-    let h = c.before.before.before.requires in
+    let h = c.requires in
     inside_along c.times-third.ensures (inside_wider (inside_factor h.1.real h.1.imag h.2.inside_c) tt)
 
 two : (c : tie.After-plus) → Inside (2 ^ 33) c.plus.result
-two c = inside_along c.plus.ensures (inside_plus (first c.before.before.before) (second c.before.before))
+two c = inside_along c.plus.ensures (inside_plus (first c.before.before.before.before.before) (second c.before.before.before))
 
 scaled-requires : tie.Need-scaled-first-requires
 scaled-requires c κs = (wider (lit (pos scale)) tt, inside_wider c.requires.2.inside_a tt)
 
 plus-requires : tie.Need-plus-requires
-plus-requires c κs = (inside_wider (first c.before.before) tt, inside_wider (second c.before) tt)
+plus-requires c κs = (inside_wider (first c.before.before.before.before) tt, inside_wider (second c.before.before) tt)
 
 plus-requires-2 : tie.Need-plus-requires-2
 plus-requires-2 c κs = (inside_wider (two c) tt, inside_wider (third c.before) tt)
@@ -46,12 +46,12 @@ rounded-requires c κs =
 returns : tie.Need-returns
 unfolding sequence
 returns c =
-    let q = c.before in
-    let p = q.before in
-    let t = p.before in
-    let s = t.before.before in
-    let h = s.before.requires in
-    let two_is = p.plus.ensures ∙ ap₂ plus s.scaled-first.ensures t.before.times-second.ensures in
+    let q = c in
+    let p = q in
+    let t = p in
+    let s = t in
+    let h = s.requires in
+    let two_is = p.plus.ensures ∙ ap₂ plus s.scaled-first.ensures t.times-second.ensures in
     let e = c.rounded.ensures ∙ ap (rounded scale) (q.plus-2.ensures ∙ ap₂ plus two_is t.times-third.ensures) in
     (e, inside_along e (sequence_inside h.0 h.1 h.2))
 
