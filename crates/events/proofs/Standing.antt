@@ -105,18 +105,18 @@ module _ (s : List ℕ) {b : Bool} (r : b ≡ is_reading s) where
 
 -- by the test of the refusal: the reading goes on, or has ended
 module _ (s : List ℕ) {a : Answer} {b : Bool} (f : a ≡ refusal (reader_of s)) (d : b ≡ is_done a) where
-  by_reading : (x y : Bool) → is_reading s ≡ x → not b ≡ y → x ≡ not y
-  by_reading true true t u = absurd (false≢true (sym u ∙ d ∙ ap is_done (f ∙ ap refusal (held_is s t))))
-  by_reading true false t u = refl
-  by_reading false true t u = refl
-  by_reading false false t u =
+  by_reading : (x y : Bool) → is_reading s ≡ x → b ≡ y → x ≡ y
+  by_reading true true t u = refl
+  by_reading true false t u = absurd (false≢true (sym u ∙ d ∙ ap is_done (f ∙ ap refusal (held_is s t))))
+  by_reading false true t u =
       absurd (false≢true (sym (not_done (ended_by (ended_in s) (index_in s))) ∙ ap is_done (sym (f ∙ ap refusal (ended_is s t))) ∙ sym d ∙ u))
+  by_reading false false t u = refl
 
   pub goes_on : b ≡ true → is_reading s ≡ true
-  goes_on u = by_reading (is_reading s) false refl u
+  goes_on u = by_reading (is_reading s) true refl u
 
   pub has_ended : b ≡ false → is_reading s ≡ false
-  has_ended u = by_reading (is_reading s) true refl u
+  has_ended u = by_reading (is_reading s) false refl u
 
 -- ---- how many bytes are wanted
 

@@ -10,12 +10,12 @@ use Rattle.differential.proofs.Sizes.{end_most_lem}
 use Rattle.differential.proofs.end_restraint.Statement.{statement}
 use Rattle.differential.proofs.end_restraint.Tie as tie
 
-root_is : (c : tie.After-root-up) → c.root-up.result ≡ end_restraint c.before.before.args.i
+root_is : (c : tie.After-root_up) → c.root_up.result ≡ end_restraint c.before.before.args.i
 unfolding end_restraint
-root_is c = c.root-up.ensures ∙ ap (λ (n : ℕ). root_up (4096 * n)) c.before.squared-magnitude.ensures
+root_is c = c.root_up.ensures ∙ ap (λ (n : ℕ). root_up (4096 * n)) c.before.squared_magnitude.ensures
 
-mul-root-up : tie.Need-overflow-mul-root-up
-mul-root-up c = record { fits = omega (arith, c.squared-magnitude.ensures, squared_magnitude_most c.before.requires) }
+mul-root-up : tie.Need-overflow_mul-squared_magnitude
+mul-root-up c = record { fits = omega (arith, c.squared_magnitude.ensures, squared_magnitude_most c.before.requires) }
 
 returns : tie.Need-returns
 returns c = (root_is c, rw (root_is c) (end_most_lem c.before.before.requires))

@@ -7,7 +7,7 @@ use Rattle.differential.proofs.magnitude.Tie as tie
 
 returns : tie.Need-returns
 unfolding magnitude
-returns c = (c.floor-root.ensures, rw c.floor-root.ensures (magnitude_most c.before.before.requires))
+returns c = (c.floor_root.ensures, rw c.floor_root.ensures (magnitude_most c.before.before.requires))
 
 pub magnitude_spec : {M : Type 1} → statement M
 magnitude_spec = tie.close (tie.spec (λ c. search rules) (λ c κs. search rules) returns)

@@ -13,22 +13,22 @@ use Rattle.differential.proofs.operates.Tie as tie
 restrained : (c : tie.Start) → c.args.slope * c.args.x.restraint ≤ 100 * restraint_most
 restrained c = mul-le-mul c.requires.0 c.requires.2.restraint_size
 
-mul-restrained : tie.Need-overflow-mul-restrained
+mul-restrained : tie.Need-overflow_mul-restrained
 mul-restrained c = record { fits = omega (arith, restrained c.before) }
 
-mul-if1 : tie.Need-overflow-mul-if1
+mul-if1 : tie.Need-overflow_mul-pickup
 mul-if1 c = let h = c.before.requires.1 in record { fits = omega (arith, mul-le-mul h h) }
 
-mul-result : tie.Need-overflow-mul-result
+mul-result : tie.Need-overflow_mul-result
 mul-result c = let h = restrained c.before.before.before in record { fits = omega (arith, mul-le-mul h h) }
 
-returns : tie.Need-returns
+returns : tie.Need-returns-then-pickup-x
 unfolding operates
-returns c = rw (le-leb _ _ c.before.if1.true)
+returns c = rw (le-leb _ _ c.before.if-pickup-x.true)
 
-returns-2 : tie.Need-returns-2
+returns-2 : tie.Need-returns-else-pickup-x
 unfolding operates
-returns-2 c = rw (lt-leb _ _ c.if1.false)
+returns-2 c = rw (lt-leb _ _ c.if-pickup-x.false)
 
 pub operates_spec : {M : Type 1} → statement M
 operates_spec = tie.close (tie.spec mul-restrained mul-if1 mul-result (λ c. search rules) returns returns-2)

@@ -10,8 +10,8 @@ returns c =
     let o3 = c.before in
     let o2 = o3.before in
     let o1 = o2.before in
-    let told = c.three-bits.ensures in
-    (rw (told.0, o3.operates3.ensures, o2.operates2.ensures, o1.operates.ensures, o1.before.pickup.ensures, o1.before.before.slope.ensures), told.1)
+    let told = c.three_bits.ensures in
+    (rw (told.0, o3.operates-c.ensures, o2.operates-b.ensures, o1.operates-a.ensures, o1.before.pickup-pickup.ensures, o1.before.before.slope-slope.ensures), told.1)
 
 pub operating_bits_spec : {M : Type 1} → statement M
 operating_bits_spec =

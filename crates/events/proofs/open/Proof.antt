@@ -7,19 +7,19 @@ use Rattle.events.proofs.OpenEnd.{open_17, open_13, open_0}
 use Rattle.events.proofs.open.Statement.{statement}
 use Rattle.events.proofs.open.Tie as tie
 
-cast-reader : tie.Need-overflow-cast-reader
+cast-reader : tie.Need-overflow_cast-reader
 cast-reader c =
     let a = c.before.before.before.before.before.before.before.before.before.args in
-    let h = good_range a.ends a.status c.before.good_file.ensures c.if2.false in
+    let h = good_range a.ends a.status c.before.good_file.ensures c.if-not-good_file.false in
     record { fits = omega (arith, h.0) }
 
-cast-reader-2 : tie.Need-overflow-cast-reader-2
+cast-reader-2 : tie.Need-overflow_cast-reader-2
 cast-reader-2 c =
     let a = c.before.before.before.before.before.before.before.before.before.args in
-    let h = good_range a.ends a.status c.before.good_file.ensures c.if2.false in
+    let h = good_range a.ends a.status c.before.good_file.ensures c.if-not-good_file.false in
     record { fits = omega (arith, h.1) }
 
-slice-write-reader-2 : tie.Need-slice-write-reader-2
+slice-write-reader-2 : tie.Need-bounds-reader-1
 slice-write-reader-2 c = simp length-set (omega arith)
 
 pub open_spec : {M : Type 1} → statement M

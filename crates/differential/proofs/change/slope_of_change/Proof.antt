@@ -4,10 +4,10 @@ use Rattle.differential.proofs.SlopeOfChange.{Between, any_number, upper_half, l
 use Rattle.differential.proofs.change.slope_of_change.Statement.{statement}
 use Rattle.differential.proofs.change.slope_of_change.Tie as tie
 
-abbrev invariant-loop : tie.invariant-loop
+abbrev invariant-loop : tie.invariant-loop-width
 invariant-loop pickup x least₀ width₀ least width = Between pickup x least width
 
-abbrev decreases-loop : tie.decreases-loop
+abbrev decreases-loop : tie.decreases-loop-width
 decreases-loop pickup x least₀ width₀ least width = width
 
 pub slope_of_change_spec : {M : Type 1} → statement M

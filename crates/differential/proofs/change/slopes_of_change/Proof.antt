@@ -7,7 +7,7 @@ returns : tie.Need-returns
 returns c =
     let b = c.before in
     let a = b.before in
-    rw (c.slope-of-change3.ensures, b.slope-of-change2.ensures, a.slope-of-change.ensures, a.before.pickup.ensures)
+    rw (c.slope_of_change-c.ensures, b.slope_of_change-b.ensures, a.slope_of_change-a.ensures, a.pickup-pickup.ensures)
 
 pub slopes_of_change_spec : {M : Type 1} → statement M
 slopes_of_change_spec =

@@ -8,7 +8,7 @@ use Rattle.distance.proofs.constants.compensation.Tie as tie
 
 returns : tie.Need-returns
 returns c =
-    let re = c.before.k-real in let im = c.k-imaginary in
+    let re = c.before.k_real-re in let im = c.k_imaginary-im in
     two_fields Compensates (compensation_inside c.before.before.before.requires) re.type_inv im.type_inv re.ensures im.ensures
 
 pub compensation_spec : {M : Type 1} → statement M

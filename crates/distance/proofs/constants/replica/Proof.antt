@@ -9,7 +9,7 @@ use Rattle.distance.proofs.constants.replica.Tie as tie
 
 returns : tie.Need-returns
 returns c =
-    let re = c.before.replica-real in let im = c.replica-imaginary in
+    let re = c.before.replica_real-re in let im = c.replica_imaginary-im in
     two_fields (Inside most_replica) (replica_inside c.before.before.before.requires) re.type_inv im.type_inv re.ensures im.ensures
 
 pub replica_spec : {M : Type 1} → statement M

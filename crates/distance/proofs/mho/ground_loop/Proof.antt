@@ -10,7 +10,7 @@ returns : tie.Need-returns
 unfolding ground_loop
 returns c =
     let h = c.before.requires in
-    rw c.plus.ensures (refl, record { voltage = inside_wider h.0 tt; current = inside_plus h.1 h.2; polarising = h.3 })
+    rw c.plus-with_k.ensures (refl, record { voltage = inside_wider h.0 tt; current = inside_plus h.1 h.2; polarising = h.3 })
 
 pub ground_loop_spec : {M : Type 1} → statement M
 ground_loop_spec = tie.close (tie.spec (λ c κs. search rules) returns)

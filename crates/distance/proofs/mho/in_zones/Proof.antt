@@ -10,9 +10,9 @@ returns : tie.Need-returns
 returns c =
     let q = c.before.before in
     let f = q.before.ranges in
-    let m = q.ratio-of.ensures.0 in
-    let first = simp (to_z-of_z f.r, to_z-of_z f.r2) at c.before.asserts.ensures in
-    let second = simp (to_z-of_z f.r, to_z-of_z f.r2) at c.asserts2.ensures in
+    let m = q.ratio_of-q.ensures.0 in
+    let first = simp (to_z-of_z f.r, to_z-of_z f.r2) at c.before.asserts-first.ensures in
+    let second = simp (to_z-of_z f.r, to_z-of_z f.r2) at c.asserts-second.ensures in
     (first ∙ ap (asserts q.before.args.r) m, second ∙ ap (asserts q.before.args.r2) m)
 
 pub in_zones_spec : {M : Type 1} → statement M

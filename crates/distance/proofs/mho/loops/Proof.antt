@@ -9,28 +9,28 @@ use Rattle.distance.proofs.mho.loops.Statement.{statement}
 use Rattle.distance.proofs.mho.loops.Tie as tie
 
 -- what each quantity is
-module _ (c : tie.After-turned2) where
-  abbrev p : tie.After-positive-sequence
+module _ (c : tie.After-turned-a2p) where
+  abbrev p : tie.After-positive_sequence-p
   p = c.before.before.before.before
 
   abbrev start : tie.Start
   start = p.before.before.before.before
 
-  k_is : p.before.k-product.result ≡ k_product (compensation start.args.s.now) start.args.i
-  k_is = p.before.k-product.ensures.0 ∙ ap (λ (k : Phasor). k_product k start.args.i) p.before.before.compensation.ensures.0
+  k_is : p.before.k_product-k.result ≡ k_product (compensation start.args.s.now) start.args.i
+  k_is = p.before.k_product-k.ensures.0 ∙ ap (λ (k : Phasor). k_product k start.args.i) p.before.before.compensation.ensures.0
 
-  ap_is : c.before.turned.result ≡ turned a (positive_sequence start.args.v)
-  ap_is = c.before.turned.ensures.0 ∙ (λ k. turned (c.before.before.before.a.ensures.0 k) (p.positive-sequence.ensures.0 k))
+  ap_is : c.before.turned-ap.result ≡ turned a (positive_sequence start.args.v)
+  ap_is = c.before.turned-ap.ensures.0 ∙ (λ k. turned (c.before.before.before.a-a.ensures.0 k) (p.positive_sequence-p.ensures.0 k))
 
-  a²p_is : c.turned2.result ≡ turned a² (positive_sequence start.args.v)
-  a²p_is = c.turned2.ensures.0 ∙ (λ k. turned (c.before.before.a2.ensures.0 k) (p.positive-sequence.ensures.0 k))
+  a²p_is : c.turned-a2p.result ≡ turned a² (positive_sequence start.args.v)
+  a²p_is = c.turned-a2p.ensures.0 ∙ (λ k. turned (c.before.before.a2-a2.ensures.0 k) (p.positive_sequence-p.ensures.0 k))
 
 returns : tie.Need-returns
 unfolding loops_of
 returns c =
     let q = c.before in
     let e : six_of (start q).args.v (start q).args.i _ _ _ _ ≡ loops_of (compensation (start q).args.s.now) (start q).args.v (start q).args.i =
-    λ k. six_of (start q).args.v (start q).args.i (k_is q k) ((p q).positive-sequence.ensures.0 k) (ap_is q k) (a²p_is q k) in
+    λ k. six_of (start q).args.v (start q).args.i (k_is q k) ((p q).positive_sequence-p.ensures.0 k) (ap_is q k) (a²p_is q k) in
     (c.six.ensures.0 ∙ e, c.six.ensures.1)
 
 pub loops_spec : {M : Type 1} → statement M

@@ -11,7 +11,7 @@ unfolding phase_loop
 returns c =
     let j = c.before in
     let h = j.before.before.requires in
-    rw (j.before.minus.ensures, j.minus2.ensures, c.minus-j.ensures) (
+    rw (j.before.minus-v.ensures, j.minus-i.ensures, c.minus_j-vp.ensures) (
       refl,
       record {
         voltage = inside_minus h.0 h.1;

@@ -12,20 +12,20 @@ use Rattle.distance.proofs.mho.ratio_of.Statement.{statement}
 use Rattle.distance.proofs.mho.ratio_of.Tie as tie
 
 -- m
-m_is : (c : tie.After-dot2) → c.dot2.result ≡ (ratio_of c.before.before.before.args.z c.before.before.before.args.l).m
-m_is c = c.dot2.ensures ∙ ap (λ (p : Phasor). dot p c.before.before.before.args.l.vp) c.before.times.ensures
+m_is : (c : tie.After-dot-m) → c.dot-m.result ≡ (ratio_of c.before.before.before.args.z c.before.before.before.args.l).m
+m_is c = c.dot-m.ensures ∙ ap (λ (p : Phasor). dot p c.before.before.before.args.l.vp) c.before.times.ensures
 
-dot-requires-2 : tie.Need-dot-requires-2
+dot-requires-2 : tie.Need-dot-m-requires
 dot-requires-2 c κs =
     let h = c.before.before.requires in
     multiply (inside_along c.times.ensures (inside_times h.0 h.1.current)) h.1.polarising tt tt tt
 
 returns : tie.Need-returns
 returns c =
-    let n = c.before.before.dot in
+    let n = c.before.before.dot-n in
     let h = c.before.before.before.requires in
     let l = h.1 in
-    simp (back n.result n.type_inv, back c.dot2.result c.dot2.type_inv) (
+    simp (back n.result n.type_inv, back c.dot-m.result c.dot-m.type_inv) (
       (λ k. record { n = n.ensures k; m = m_is c k }),
       record {
         numerator = wider (along n.ensures (within_dot l.voltage l.polarising)) tt;

@@ -18,7 +18,7 @@ returns : tie.Need-returns
 unfolding residual
 returns c =
     let s = c.before.before in
-    let e = c.plus2.ensures ∙ ap (λ (x : Phasor). plus x s.args.i.c) c.before.plus.ensures in
+    let e = c.plus-2.ensures ∙ ap (λ (x : Phasor). plus x s.args.i.c) c.before.plus.ensures in
     (e, inside_along e (residual_inside s.requires))
 
 pub residual_spec : {M : Type 1} → statement M

@@ -20,15 +20,15 @@ returns c =
     let f = c1.before.before.before.ranges in
     let r = to_z-of_z f.r in
     let r2 = to_z-of_z f.r2 in
-    let z = c1.before.replica.ensures.0 in
-    let ag = rw (r, r2, z) at c1.in-zones.ensures in
-    let bg = rw (r, r2, z) at c2.in-zones2.ensures in
-    let cg = rw (r, r2, z) at c3.in-zones3.ensures in
-    let ab = rw (r, r2, z) at c4.in-zones4.ensures in
-    let bc = rw (r, r2, z) at c5.in-zones5.ensures in
-    let ca = rw (r, r2, z) at c6.in-zones6.ensures in (
-      c.before.six_bits.ensures ∙ (λ k. bits (ag.0 k ∷ bg.0 k ∷ cg.0 k ∷ ab.0 k ∷ bc.0 k ∷ ca.0 k ∷ [])),
-      c.six-bits2.ensures ∙ (λ k. bits (ag.1 k ∷ bg.1 k ∷ cg.1 k ∷ ab.1 k ∷ bc.1 k ∷ ca.1 k ∷ [])),
+    let z = c1.before.replica-z.ensures.0 in
+    let ag = rw (r, r2, z) at c1.in_zones-ag.ensures in
+    let bg = rw (r, r2, z) at c2.in_zones-bg.ensures in
+    let cg = rw (r, r2, z) at c3.in_zones-cg.ensures in
+    let ab = rw (r, r2, z) at c4.in_zones-ab.ensures in
+    let bc = rw (r, r2, z) at c5.in_zones-bc.ensures in
+    let ca = rw (r, r2, z) at c6.in_zones-ca.ensures in (
+      c.before.six_bits-first.ensures ∙ (λ k. bits (ag.0 k ∷ bg.0 k ∷ cg.0 k ∷ ab.0 k ∷ bc.0 k ∷ ca.0 k ∷ [])),
+      c.six_bits-second.ensures ∙ (λ k. bits (ag.1 k ∷ bg.1 k ∷ cg.1 k ∷ ab.1 k ∷ bc.1 k ∷ ca.1 k ∷ [])),
     )
 
 pub zone_bits_spec : {M : Type 1} → statement M
