@@ -22,12 +22,12 @@ returns c =
     let w3 = m1.before in
     let w2 = w3.before in
     let f = w2.before.before in
-    let front = rw (f.before.before.before.trip.ensures, f.before.before.six_bits.ensures, f.before.number.ensures) at f.front.ensures in
-    more 28 c.with-word6.ensures
-    (more 24 w5.with-word5.ensures
-    (more 20 w4.with-word4.ensures
-    (more 16 w3.with-word3.ensures (more 12 w2.with-word2.ensures (more 8 w2.before.with-word.ensures front refl) refl) refl)
-    m1.magnitude.ensures.0) m2.magnitude2.ensures.0) m3.magnitude3.ensures.0
+    let front = rw (f.before.before.before.trip.ensures, f.before.before.six_bits.ensures, f.before.number.ensures) at f.front-r.ensures in
+    more 28 c.with_word.ensures
+    (more 24 w5.with_word-r-5.ensures
+    (more 20 w4.with_word-r-4.ensures
+    (more 16 w3.with_word-r-3.ensures (more 12 w2.with_word-r-2.ensures (more 8 w2.before.with_word-r.ensures front refl) refl) refl)
+    m1.magnitude.ensures.0) m2.magnitude-2.ensures.0) m3.magnitude-3.ensures.0
 
 pub bytes_spec : {M : Type 1} → statement M
 bytes_spec =

@@ -9,7 +9,7 @@ returns : tie.Need-returns
 returns c =
     let p = c.before in
     let w = p.before.before.before in
-    p.put.ensures ∙ ap (over w.before.args.r w.before.args.at) w.word.ensures
+    p.put.ensures ∙ ap (over w.before.args.r w.before.args.at) w.word-four.ensures
 
 pub with_word_spec : {M : Type 1} → statement M
 with_word_spec =

@@ -16,18 +16,18 @@ use Rattle.quadrilateral.proofs.below_top.Statement.{statement}
 use Rattle.quadrilateral.proofs.below_top.Tie as tie
 
 -- r Z I, 1000000 V and what is left of the one without the other
-module _ (c : tie.After-scaled2) where
+module _ (c : tie.After-scaled-2) where
   abbrev start : tie.Start
   start = c.before.before
 
   first : c.before.scaled.result ≡ scaled start.args.r start.args.zi
-  first = simp (to_z-of_z start.fits.r) at c.before.scaled.ensures
+  first = simp (to_z-of_z start.ranges.r) at c.before.scaled.ensures
 
   first_inside : Inside 18480000000000 c.before.scaled.result
-  first_inside = inside_along first (inside_scaled start.pre.0 start.pre.1)
+  first_inside = inside_along first (inside_scaled start.requires.0 start.requires.1)
 
-  second_inside : Inside 84000000000 c.scaled2.result
-  second_inside = inside_along c.scaled2.ensures (inside_scaled (lit (pos 1000000)) start.pre.2)
+  second_inside : Inside 84000000000 c.scaled-2.result
+  second_inside = inside_along c.scaled-2.ensures (inside_scaled (lit (pos 1000000)) start.requires.2)
 
 scaled-requires : tie.Need-scaled-requires
 scaled-requires c κs = simp (to_z-of_z c.ranges.r) (wider c.requires.0 tt, inside_wider c.requires.1 tt)
@@ -35,14 +35,14 @@ scaled-requires c κs = simp (to_z-of_z c.ranges.r) (wider c.requires.0 tt, insi
 cross-requires : tie.Need-cross-requires
 cross-requires c κs =
     let p = c.before in
-    multiply (inside_along c.minus.ensures (inside_minus (first_inside p) (second_inside p))) (start p).requires.3 tt tt tt
+    multiply (inside_along c.minus-short.ensures (inside_minus (first_inside p) (second_inside p))) (start p).requires.3 tt tt tt
 
 returns : tie.Need-returns
 unfolding below_top reactance
 returns c =
     let m = c.before in
     let p = m.before in
-    let left = m.minus.ensures ∙ ap₂ minus (first p) p.scaled2.ensures in
+    let left = m.minus-short.ensures ∙ ap₂ minus (first p) p.scaled-2.ensures in
     simp (back c.cross.result c.cross.type_inv) (ap (lt_z (pos 0)) (c.cross.ensures ∙ ap (λ (x : Phasor). cross x (start p).args.ir) left))
 
 pub below_top_spec : {M : Type 1} → statement M

@@ -36,23 +36,23 @@ module _ (s : List ℕ) (i : Phases) (l : SixLoops) (d : Direction) {R : ℕ} (e
     unfolding quadrilaterals_of
     not_ahead t = (rw (← e, ne_eqb R 0 on, ← told, t), omega arith)
 
-returns : tie.Need-returns
-returns c = let a = c.before.before.before.args in off a.s.now a.i a.l a.d c.before.resistive-reach.ensures c.if1.true
+returns : tie.Need-returns-then-resistive_reach-eq0
+returns c = let a = c.before.before.before.args in off a.s.now a.i a.l a.d c.before.resistive_reach.ensures c.if-resistive_reach-eq0.true
 
-returns-2 : tie.Need-returns-2
+returns-2 : tie.Need-returns-then-is_forward
 returns-2 c =
     let then = c.before.before in
     let told = then.before in
     let on = told.before in
     let a = on.before.before.before.args in
-    ahead a.s.now a.i a.l a.d on.before.resistive-reach.ensures on.if1.false told.is_forward.ensures then.if2.true c.before.residual.ensures.0 c.seeing.ensures
+    ahead a.s.now a.i a.l a.d on.before.resistive_reach.ensures on.if-resistive_reach-eq0.false told.is_forward.ensures then.if-is_forward.true c.before.residual.ensures.0 c.seeing.ensures
 
-returns-3 : tie.Need-returns-3
+returns-3 : tie.Need-returns-else-is_forward
 returns-3 c =
     let told = c.before in
     let on = told.before in
     let a = on.before.before.before.args in
-    not_ahead a.s.now a.i a.l a.d on.before.resistive-reach.ensures on.if1.false told.is_forward.ensures c.if2.false
+    not_ahead a.s.now a.i a.l a.d on.before.resistive_reach.ensures on.if-resistive_reach-eq0.false told.is_forward.ensures c.if-is_forward.false
 
 pub of_fault_spec : {M : Type 1} → statement M
 of_fault_spec =

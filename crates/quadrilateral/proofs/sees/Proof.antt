@@ -16,16 +16,16 @@ use Rattle.quadrilateral.proofs.sees.Statement.{statement}
 use Rattle.quadrilateral.proofs.sees.Tie as tie
 
 -- Z I
-drop_inside : (c : tie.After-times) → Inside drop_size c.times.result
-drop_inside c = let h = c.before.requires in inside_along c.times.ensures (inside_times h.0 h.4.current)
+drop_inside : (c : tie.After-times-zi) → Inside drop_size c.times-zi.result
+drop_inside c = let h = c.before.requires in inside_along c.times-zi.ensures (inside_times h.0 h.4.current)
 
 -- whether it lies below the top
-top : (c : tie.After-below-top) → let a = c.before.before.args in c.below_top.result ≡ below_top a.r c.before.times.result a.l.v a.ir
+top : (c : tie.After-below_top) → let a = c.before.before.args in c.below_top.result ≡ below_top a.r c.before.times-zi.result a.l.v a.ir
 top c = simp (to_z-of_z c.before.before.ranges.r) at c.below_top.ensures
 
-below-top-requires : tie.Need-below-top-requires
+below-top-requires : tie.Need-below_top-requires
 below-top-requires c κs =
-    let h = c.before.requires in simp (to_z-of_z c.before.ranges.r) (h.1, drop_inside c, h.4.voltage, h.3)
+    let h = c.requires in simp (to_z-of_z c.ranges.r) (h.1, drop_inside c.before, h.4.voltage, h.3)
 
 -- both ways out, with Z I and the first test as they were worked out
 module _ (z ir : Phasor) (r : ℤ) (limit : ℕ) (l : Loop) {zi : Phasor} {b : Bool} (e : zi ≡ times z l.i) (f : b ≡ below_top r zi l.v ir) where
@@ -37,19 +37,14 @@ module _ (z ir : Phasor) (r : ℤ) (limit : ℕ) (l : Loop) {zi : Phasor} {b : B
   unfolding sees
   not_below t = rw (← e, ← f, t)
 
-returns : tie.Need-returns
+returns : tie.Need-returns-then-below_top
 returns c =
-    let second = c.before in
-    let first = second.before in
-    let then = first.before in
-    let zi = then.before.before in
-    let a = zi.before.args in
-    below a.z a.ir a.r a.limit a.l zi.times.ensures (top then.before) then.if1.true first.across.ensures.0 second.across2.ensures.0 c.between-sides.ensures
+    let a = c.args in
+    below a.z a.ir a.r a.limit a.l c.times-zi.ensures (top c.before.before.before.before.before) c.if-below_top.true c.across.ensures.0 c.across-then-below_top.ensures.0 c.between_sides.ensures
 
-returns-2 : tie.Need-returns-2
+returns-2 : tie.Need-returns-else-below_top
 returns-2 c =
-    let zi = c.before.before in
-    let a = zi.before.args in not_below a.z a.ir a.r a.limit a.l zi.times.ensures (top c.before) c.if1.false
+    let a = c.args in not_below a.z a.ir a.r a.limit a.l c.times-zi.ensures (top c.before) c.if-below_top.false
 
 pub sees_spec : {M : Type 1} → statement M
 sees_spec =

@@ -24,22 +24,22 @@ above : (z : ℤ) → lt_z z (pos 0) ≡ false → Within side_size z → T (non
 above (pos n) e h = (tt, record { fits = omega (arith, h.size) })
 above (negsuc n) e h = absurd (true≢false e)
 
-sub-result : tie.Need-overflow-sub-result
+sub-result : tie.Need-overflow_sub-result
 sub-result c = let h = c.before.requires in simp (rd h tt) (fit (sub (lit (pos 0)) h) tt)
 
-cast-result : tie.Need-overflow-cast-result
+cast-result : tie.Need-overflow_cast-result
 cast-result c =
     let h = c.before.requires in
-    let o = below c.before.args.z (simp (rd h tt) at c.if1.true) h in
+    let o = below c.before.args.z (simp (rd h tt) at c.if-z-lt0.true) h in
     simp (rd h tt, rd (sub (lit (pos 0)) h) tt) (o.0, o.1)
 
-cast-result-2 : tie.Need-overflow-cast-result-2
-cast-result-2 c = let h = c.before.requires in simp (rd h tt) (above c.before.args.z (simp (rd h tt) at c.if1.false) h)
+cast-result-2 : tie.Need-overflow_cast-result-else-z-lt0
+cast-result-2 c = let h = c.before.requires in simp (rd h tt) (above c.before.args.z (simp (rd h tt) at c.if-z-lt0.false) h)
 
-returns : tie.Need-returns
+returns : tie.Need-returns-then-z-lt0
 returns c =
     let h = c.before.requires in
-    simp (rd h tt, rd (sub (lit (pos 0)) h) tt) (below c.before.args.z (simp (rd h tt) at c.if1.true) h).2
+    simp (rd h tt, rd (sub (lit (pos 0)) h) tt) (below c.before.args.z (simp (rd h tt) at c.if-z-lt0.true) h).2
 
 pub size_spec : {M : Type 1} → statement M
 size_spec = tie.close (tie.spec sub-result cast-result cast-result-2 returns (λ c. search rules))
