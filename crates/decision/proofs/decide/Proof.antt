@@ -14,7 +14,7 @@ use Rattle.decision.proofs.decide.Tie as tie
 whole : (s : List ℕ) → length s ≡ record_length → take record_length s ≡ s
 whole s l = take_all record_length s (omega arith)
 
-decide-by-requires : tie.Need-decide-by-requires
+decide-by-requires : tie.Need-decide_by-requires
 decide-by-requires c κs = let h = c.before.before.before.before.requires in subst Ranges (sym (whole _ h.1)) h.0
 
 returns : tie.Need-returns

@@ -7,13 +7,10 @@ use Rattle.decision.proofs.Cases.{decide_2, decide_3, decide_4, decide_0}
 use Rattle.decision.proofs.decide_by.Statement.{statement}
 use Rattle.decision.proofs.decide_by.Tie as tie
 
-cast-t11 : tie.Need-overflow-cast-t11
+cast-t11 : tie.Need-overflow_cast-result
 cast-t11 c =
-    let k = c.before in
-    let m = k.before.before in
-    let e = m.before.before in
-    let place = (first_at _ _ (sym m.first-missing.ensures ∙ k.k.given.1)).0 in
-    omega (arith, place, e.if1.false, e.before.window_length.ensures.1)
+    let place = (first_at _ _ (sym c.first_missing.ensures ∙ c.k-1.given.1)).0 in
+    omega (arith, place, c.if-window-window_length.false, c.window_length.ensures.1)
 
 pub decide_by_spec : {M : Type 1} → statement M
 decide_by_spec =

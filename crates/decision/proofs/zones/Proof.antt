@@ -12,39 +12,39 @@ use Rattle.decision.specs.Decision.{asserting_bits}
 use Rattle.decision.proofs.zones.Statement.{statement}
 use Rattle.decision.proofs.zones.Tie as tie
 
-zone-bits-requires : tie.Need-zone-bits-requires
+zone-bits-requires : tie.Need-zone_bits-seen-requires
 zone-bits-requires c κs =
-    let r2 = c.second-reach in
-    let r = c.before.reach in
+    let r2 = c.second_reach-second_reach in
+    let r = c.before.reach-reach in
     let h = c.before.before.before.requires in
     simp (back r.result r.type_inv, back r2.result r2.type_inv) (h.0, along r.ensures (reach_within h.0), along r2.ensures (second_reach_within h.0), h.1)
 
 -- the bits at both reaches, whether the second zone is on or off
-module _ (c : tie.After-zone-bits) where
+module _ (c : tie.After-zone_bits-seen) where
   abbrev start : tie.Start
   start = c.before.before.before.before
 
   pub both :
       let s = start.args.s.now in
-      (c.zone-bits.result.first ≡ asserting_bits s start.args.l) × (c.zone-bits.result.second ≡ loop_bits (replica s) (pos (second_reach s)) start.args.l)
+      (c.zone_bits-seen.result.first ≡ asserting_bits s start.args.l) × (c.zone_bits-seen.result.second ≡ loop_bits (replica s) (pos (second_reach s)) start.args.l)
   both =
       let z = replica start.args.s.now in
-      let r2 = c.before.second-reach in
-      let r = c.before.before.reach in
-      let e = simp (back r.result r.type_inv, back r2.result r2.type_inv) at c.zone-bits.ensures in
+      let r2 = c.before.second_reach-second_reach in
+      let r = c.before.before.reach-reach in
+      let e = simp (back r.result r.type_inv, back r2.result r2.type_inv) at c.zone_bits-seen.ensures in
       (e.0 ∙ (λ k. loop_bits z (r.ensures k) start.args.l), e.1 ∙ (λ k. loop_bits z (r2.ensures k) start.args.l))
 
-off : tie.Need-returns
+off : tie.Need-returns-then-second_reach-eq0
 off c =
     let b = c.before in
-    let zero : second_reach (start b).args.s.now ≡ 0 = rw b.before.second-reach.ensures at c.if1.true in
+    let zero : second_reach (start b).args.s.now ≡ 0 = rw b.before.second_reach-second_reach.ensures at c.if-second_reach-eq0.true in
     ((both b).0, rw zero)
 
-on : tie.Need-returns-2
+on : tie.Need-returns
 on c =
     let b = c.before in
     let r2 = second_reach (start b).args.s.now in
-    let not_zero : r2 ≡ 0 → ⊥ = rw b.before.second-reach.ensures at c.if1.false in
+    let not_zero : r2 ≡ 0 → ⊥ = rw b.before.second_reach-second_reach.ensures at c.if-second_reach-eq0.false in
     ((both b).0, rw (ne_eqb r2 0 not_zero) (both b).1)
 
 pub zones_spec : {M : Type 1} → statement M
