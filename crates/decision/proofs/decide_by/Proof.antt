@@ -9,7 +9,7 @@ use Rattle.decision.proofs.decide_by.Tie as tie
 
 cast-t11 : tie.Need-overflow_cast-result
 cast-t11 c =
-    let place = (first_at _ _ (sym c.first_missing.ensures ∙ c.k-1.given.1)).0 in
+    let place = (first_at _ _ (sym c.first_missing.ensures ∙ c.in-At.is)).0 in
     omega (arith, place, c.if-window-window_length.false, c.window_length.ensures.1)
 
 pub decide_by_spec : {M : Type 1} → statement M
