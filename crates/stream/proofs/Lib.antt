@@ -1,7 +1,6 @@
--- What belongs to no one function: laws of windows, of their bytes and of their histories, and what the two walks by hand share.
+-- What belongs to no one function: laws of windows, of their bytes and of their histories.
 pub mod Bytes
 pub mod Moving
 pub mod Reading
 pub mod Storing
 pub mod History
-pub mod Lending

@@ -1,6 +1,7 @@
 // The window that is fed frame by frame (document 02, CR 1). It lies in the relay's state as bytes. For each frame it is read, lent, moved on
 // by that frame, and written back.
 #![tactic(auto)]
+
 ghost use Rattle.std.specs.Prelude.{◌≡◌, ◌+◌, ◌*◌, ◌≤◌, length, take};
 ghost use Rattle.std.proofs.Math.Seq.{paste};
 ghost use Rattle.lent.specs.Lent.{over};
