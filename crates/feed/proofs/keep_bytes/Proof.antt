@@ -15,19 +15,15 @@ use Rattle.feed.proofs.keep_bytes.Tie as tie
 
 numbers-requires : tie.Need-numbers-requires
 numbers-requires c κs =
-    let p = c.before.before.before in
-    omega (arith, (count_few p.args.frame.now).1, p.requires.1, p.requires.2)
+    omega (arith, (count_few c.args.frame.now).1, c.requires.1, c.requires.2)
 
 returns : tie.Need-returns
 returns c =
-    let k = c.before.before in
-    let m = k.before.before.before.before.before in
-    let p = m.before.before.before.before in
-    let n : ℕ = p.args.channels in
-    let f : List ℕ = p.args.frame.now in
-    let xs : List ℤ = m.numbers2.new.1.0 in
-    let same : take (n - 0) xs ≡ numbers_of f = ap (λ (i : ℕ). take i xs) (sub-zero n) ∙ frame_numbers n f xs p.requires.2 p.requires.1 m.numbers2.ensures in
-    (rw same at k.keep.ensures.0, rw same at k.keep.ensures.1)
+    let n : ℕ = c.args.channels in
+    let f : List ℕ = c.args.frame.now in
+    let xs : List ℤ = c.numbers.new.samples in
+    let same : take (n - 0) xs ≡ numbers_of f = ap (λ (i : ℕ). take i xs) (sub-zero n) ∙ frame_numbers n f xs c.requires.2 c.requires.1 c.numbers.ensures in
+    (rw same at c.keep.ensures.0, rw same at c.keep.ensures.1)
 
 pub keep_bytes_spec : {M : Type 1} → statement M
 keep_bytes_spec =

@@ -9,44 +9,33 @@ use Rattle.feed.proofs.Cases.{kept_10, kept_on, record_holds}
 use Rattle.feed.proofs.kept.Statement.{statement}
 use Rattle.feed.proofs.kept.Tie as tie
 
-keep-bytes-requires : tie.Need-keep-bytes-requires
+keep-bytes-requires : tie.Need-keep_bytes-window-requires
 keep-bytes-requires c κs =
-    let v = c.before in
-    let p = v.before.before.before.before.before.before.requires in
-    (p.2, v.frame_length.ensures.1, omega (arith, p.3, v.frame_length.ensures.0))
+    let p = c.requires in
+    (p.2, c.frame_length-channels.ensures.1, omega (arith, p.3, c.frame_length-channels.ensures.0))
 
-returns : tie.Need-returns
+returns : tie.Need-returns-then-window-lt-FULL
 returns c =
-    let k = c.before.before.before.before in
-    let v = k.before.before in
-    let p = v.before.before.before.before.before.before.requires in
-    kept_10 _ _ _ _ _ _ v.frame_length.ensures.0 v.frame_length.ensures.1 p.3 k.keep-bytes.ensures.0 k.keep-bytes.ensures.1
-    c.if1.true refl refl
+    let p = c.requires in
+    kept_10 _ _ _ _ _ _ c.frame_length-channels.ensures.0 c.frame_length-channels.ensures.1 p.3 c.keep_bytes-window.ensures.0 c.keep_bytes-window.ensures.1
+    c.if-window-lt-FULL.true refl refl
 
-part_decide_end_2 : tie.Need-slice-bounds-decide-end-2
+part_decide_end_2 : tie.Need-slice_bounds-decide-end-2
 part_decide_end_2 c =
-    let k = c.before.before.before.before.before.before.before.before in
-    let few = k.before.before.frame_length.ensures.1 in
-    let full : length k.keep-bytes.result.numbers ≡ 336 = search rules in
+    let few = c.frame_length-channels.ensures.1 in
+    let full : length c.keep_bytes-window.result.numbers ≡ 336 = search rules in
     search rules
 
 decide-requires : tie.Need-decide-requires
 decide-requires c κs =
-    let k = c.before.before.before.before.before.before.before.before.before.before in
-    let v = k.before.before in
-    let s = v.before.before.before.before.before.before in
-    let p = s.requires in
-    record_holds _ _ v.frame_length.result (numbers_of s.args.frame.now) _ p.1 p.2 k.keep-bytes.ensures.1 p.0
+    let p = c.requires in
+    record_holds _ _ c.frame_length-channels.result (numbers_of c.args.frame.now) _ p.1 p.2 c.keep_bytes-window.ensures.1 p.0
 
-returns-2 : tie.Need-returns-2
+returns-2 : tie.Need-returns
 returns-2 c =
-    let d = c.before.before in
-    let e = d.before.before.before.before.before.before.before in
-    let k = e.before.before.before.before in
-    let v = k.before.before in
-    let p = v.before.before.before.before.before.before.requires in
-    kept_on _ _ _ _ _ _ v.frame_length.ensures.0 v.frame_length.ensures.1 p.3 k.keep-bytes.ensures.0 k.keep-bytes.ensures.1
-    p.1 p.2 e.if1.false p.4 (sub-zero _) d.decide.ensures
+    let p = c.requires in
+    kept_on _ _ _ _ _ _ c.frame_length-channels.ensures.0 c.frame_length-channels.ensures.1 p.3 c.keep_bytes-window.ensures.0 c.keep_bytes-window.ensures.1
+    p.1 p.2 c.if-window-lt-FULL.false p.4 (sub-zero _) c.decide.ensures
 
 pub kept_spec : {M : Type 1} → statement M
 kept_spec =

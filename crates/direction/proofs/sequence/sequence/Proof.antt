@@ -46,13 +46,9 @@ rounded-requires c κs =
 returns : tie.Need-returns
 unfolding sequence
 returns c =
-    let q = c in
-    let p = q in
-    let t = p in
-    let s = t in
-    let h = s.requires in
-    let two_is = p.plus.ensures ∙ ap₂ plus s.scaled-first.ensures t.times-second.ensures in
-    let e = c.rounded.ensures ∙ ap (rounded scale) (q.plus-2.ensures ∙ ap₂ plus two_is t.times-third.ensures) in
+    let h = c.requires in
+    let two_is = c.plus.ensures ∙ ap₂ plus c.scaled-first.ensures c.times-second.ensures in
+    let e = c.rounded.ensures ∙ ap (rounded scale) (c.plus-2.ensures ∙ ap₂ plus two_is c.times-third.ensures) in
     (e, inside_along e (sequence_inside h.0 h.1 h.2))
 
 pub sequence_spec : {M : Type 1} → statement M
