@@ -5,6 +5,7 @@ use mathlib.Core.Path.{◌≡◌}
 use mathlib.Core.List.{List}
 use contract.Lifetimes.{Lfts}
 use denote.Ref.{Bor}
+use denote.MutBor.{MutBor}
 use lib.ListN.{length}
 use Rattle.report.specs.Written.{Written}
 use Rattle.report.specs.Program.{settings_refused, window_line}
@@ -13,13 +14,13 @@ use Rattle.report.proofs.settings_refused.Reads as settings-refused
 use Rattle.report.proofs.window_line.Reads as window-line
 
 pub settings_refused_contract :
-    (κs : Lfts 1) (out out' : Bor (List ℕ)) (r n : ℕ)
+    (κs : Lfts 1) (out out' : MutBor (List ℕ)) (r n : ℕ)
     → (line_length ≤ length out.now → settings-refused.Pre κs (out, (r, tt)))
     × (settings-refused.Post κs (out, (r, tt)) n (out', (r, tt)) → Written out.now 0 (settings_refused r) n out'.now)
 settings_refused_contract κs out out' r n = (λ room. room, λ p. p)
 
 pub window_line_contract :
-    (κs : Lfts 2) (out d out' d' : Bor (List ℕ)) (number r n : ℕ)
+    (κs : Lfts 2) (out out' : MutBor (List ℕ)) (d d' : Bor (List ℕ)) (number r n : ℕ)
     → (line_length ≤ length out.now → window-line.Pre κs (out, (number, (r, (d, tt)))))
     × (window-line.Post κs (out, (number, (r, (d, tt)))) n (out', (number, (r, (d', tt)))) → Written out.now 0 (window_line number r d.now) n out'.now × (d'.now ≡ d.now))
-window_line_contract κs out d out' d' number r n = (λ room. room, λ p. p)
+window_line_contract κs out out' d d' number r n = (λ room. room, λ p. p)

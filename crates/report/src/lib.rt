@@ -1,6 +1,7 @@
 // The lines of the window program (document 01, "Window program"), each written at the front of a lent buffer whose later
 // bytes stay.
 #![tactic(auto)]
+
 ghost use Rattle.std.specs.Prelude.{◌≡◌, ◌+◌, ◌*◌, ◌≤◌, length};
 ghost use Rattle.report.specs.Printed.{decimal, printed};
 ghost use Rattle.report.specs.Sizes.{most_digits, line_length};
@@ -79,7 +80,7 @@ pub fn window_line(
     decision: &[u8; gorsepetal::DECISION_LENGTH],
 ) -> usize
     requires { line_length ≤ length out.old }
-    ensures { Written out.old 0 (window_line number r decision.now) result out.new × (decision.now ≡ decision.now) }
+    ensures { Written out.old 0 (window_line number r decision.now) result out.new × (decision.exit.now ≡ decision.entry.now) }
 {
     if r != answers::DONE {
         return window_refused(out, number, r);

@@ -1,82 +1,115 @@
 // What the window program does with its input (document 01, "Window program"): a proposal, a confirmation, then windows. It reads, calls
 // and prints. Every refusal comes from a call, which is lent as many bytes as came.
 #![tactic(auto)]
-ghost use Rattle.std.specs.Prelude.{◌≡◌, List, ℕ, ◌≤◌, eqb, length};
+ghost use Rattle.std.specs.Prelude.{◌≡◌, List, ℕ, ◌≤◌, IfOk, OnErr, eqb, length};
 ghost use Rattle.io.specs.Counts.{IsPrefixLen};
 ghost use Rattle.gorsepetal.specs.Calls.{Proposed, Confirmed};
+
+use std::io;
+use std::io::{Read, Write};
 
 // Room for the bytes of any window.
 const WINDOW_ROOM: usize = 2 * gorsepetal::LONGEST_WINDOW_NUMBERS;
 
-// Standard output.
-const OUT: i32 = 1;
-
 // A first entry from the input. The number given back and the state are as propose promises for some entry e; for which, no contract
 // can say.
-fn propose(fd: i32, state: &mut [u8]) -> u64
-    ensures { (e : List ℕ) × Proposed state.old e result state.new }
+fn propose<R: Read>(input: &mut R, state: &mut [u8]) -> io::Result<u64>
+    ensures ok { IfOk result (λ r. (e : List ℕ) × Proposed state.old e r state.new) }
+    ensures err { OnErr result (state.new ≡ state.old) }
 {
     let mut entry = [0u8; gorsepetal::RECORD_LENGTH];
-    let n = io::read_full(fd, &mut entry);
-    gorsepetal::gorsepetal_propose(state, &entry[..n])
+    let n = read_full(input, &mut entry)?;
+    Ok(gorsepetal::gorsepetal_propose(state, &entry[..n]))
 }
 
 // A second entry from the input, likewise.
-fn confirm(fd: i32, state: &mut [u8]) -> u64
-    ensures { (e : List ℕ) × Confirmed state.old e result state.new }
+fn confirm<R: Read>(input: &mut R, state: &mut [u8]) -> io::Result<u64>
+    ensures ok { IfOk result (λ r. (e : List ℕ) × Confirmed state.old e r state.new) }
+    ensures err { OnErr result (state.new ≡ state.old) }
 {
     let mut entry = [0u8; gorsepetal::RECORD_LENGTH];
-    let n = io::read_full(fd, &mut entry);
-    gorsepetal::gorsepetal_confirm(state, &entry[..n])
+    let n = read_full(input, &mut entry)?;
+    Ok(gorsepetal::gorsepetal_confirm(state, &entry[..n]))
 }
 
 // Whether an entry was accepted, by the number given back. The line of a refused one is printed; a good one prints nothing.
-fn accepted(r: u64) -> bool
-    ensures { result ≡ eqb r 0 }
+fn accepted<W: Write>(output: &mut W, r: u64) -> io::Result<bool>
+    ensures { IfOk result (λ good. good ≡ eqb r 0) }
 {
     if r != answers::DONE {
         let mut line = [0u8; report::LINE_LENGTH];
         let n = report::settings_refused(&mut line, r);
-        io::write_all(OUT, &line[..n]);
+        output.write_all(&line[..n])?;
     }
-    r == answers::DONE
+    Ok(r == answers::DONE)
 }
 
-// Reads so many bytes to the front of the room, and answers how many came: fewer where the input ends or a read fails.
-fn read(fd: i32, room: &mut [u8], bytes: usize) -> usize
-    requires { bytes ≤ length room.old }
-    ensures { IsPrefixLen result room.new × (result ≤ bytes) }
+// Reads until the room is full or the input ends, and answers how many bytes came to its front.
+pub fn read_full<R: Read>(input: &mut R, room: &mut [u8]) -> io::Result<usize>
+    ensures { IfOk result (λ n. IsPrefixLen n room.new) }
 {
-    io::read_full(fd, &mut room[..bytes])
+    let mut at = 0;
+    while at < room.len() {
+        let n = input.read(&mut room[at..])?;
+        if n == 0 {
+            break;
+        }
+        at += n;
+    }
+    Ok(at)
+}
+
+// Reads so many bytes to the front of the room, and answers how many came: fewer where the input ends.
+fn read<R: Read>(input: &mut R, room: &mut [u8], bytes: usize) -> io::Result<usize>
+    requires { bytes ≤ length room.old }
+    ensures { IfOk result (λ n. IsPrefixLen n room.new × (n ≤ bytes)) }
+{
+    read_full(input, &mut room[..bytes])
 }
 
 // One window from the input, and its line. Answers false, and prints nothing, where the input has ended.
-fn one_window(fd: i32, state: &[u8], number: u64) -> bool {
+fn one_window<R: Read, W: Write>(
+    input: &mut R,
+    output: &mut W,
+    state: &[u8],
+    number: u64,
+) -> io::Result<bool> {
     let mut samples = [0u8; WINDOW_ROOM];
-    let n = read(fd, &mut samples, gorsepetal::window_bytes(state));
+    let n = read(input, &mut samples, gorsepetal::window_bytes(state))?;
     if n == 0 {
-        return false;
+        return Ok(false);
     }
     let mut decision = [0u8; gorsepetal::DECISION_LENGTH];
     let r = gorsepetal::gorsepetal_decide(state, &samples[..n], &mut decision);
     let mut line = [0u8; report::LINE_LENGTH];
     let k = report::window_line(&mut line, number, r, &decision);
-    io::write_all(OUT, &line[..k]);
-    true
+    output.write_all(&line[..k])?;
+    Ok(true)
 }
 
 // Windows to the end of the input, numbered from 1, refused ones counted.
-fn all_windows(fd: i32, state: &[u8]) {
+fn all_windows<R: Read, W: Write>(
+    input: &mut R,
+    output: &mut W,
+    state: &[u8],
+) -> io::Result<()> {
     let mut number = 1;
-    while number < u64::MAX && one_window(fd, state, number) {
+    while number < u64::MAX && one_window(input, output, state, number)? {
         number += 1;
     }
+    Ok(())
 }
 
 // The session on one input: after two good entries, its windows.
-pub fn run(fd: i32) {
+pub fn run<R: Read, W: Write>(input: &mut R, output: &mut W) -> io::Result<()> {
     let mut state = [0u8; gorsepetal::STATE_LENGTH];
-    if accepted(propose(fd, &mut state)) && accepted(confirm(fd, &mut state)) {
-        all_windows(fd, &state);
+    let r = propose(input, &mut state)?;
+    if !accepted(output, r)? {
+        return Ok(());
     }
+    let r = confirm(input, &mut state)?;
+    if !accepted(output, r)? {
+        return Ok(());
+    }
+    all_windows(input, output, &state)
 }

@@ -1,6 +1,8 @@
 // The window program: the session on standard input.
 #![tactic(auto)]
 
-fn main() {
-    session::run(0);
+use std::io;
+
+fn main(rt: HostRuntime) -> io::Result<()> {
+    session::run(&mut rt.stdin(), &mut rt.stdout())
 }

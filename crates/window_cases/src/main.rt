@@ -2,44 +2,45 @@
 // compared with what an independent program expects.
 #![tactic(auto)]
 
-const OUT: i32 = 1;
+use std::io::Write;
+use std::rt::Files;
+use std::{fs, io, str};
 
 // Room for the list of names.
 const NAMES: usize = 8192;
 
 // The session on the file of this name.
-fn case(name: &[u8]) {
-    io::write_all(OUT, b"case ");
-    io::write_all(OUT, name);
-    io::write_all(OUT, b"\n");
-    let fd = os::open_read(name);
-    if fd < 0 {
-        io::write_all(OUT, b"cannot be opened\n");
-        return;
-    }
-    session::run(fd);
-    libc::close(fd);
+fn case<R: Files, W: Write>(rt: &R, output: &mut W, name: &[u8]) -> io::Result<()> {
+    output.write_all(b"case ")?;
+    output.write_all(name)?;
+    output.write_all(b"\n")?;
+    let Ok(path) = str::from_utf8(name) else {
+        return output.write_all(b"cannot be opened\n");
+    };
+    let Ok(mut file) = fs::open(rt, path) else {
+        return output.write_all(b"cannot be opened\n");
+    };
+    session::run(&mut file, output)
 }
 
 // Each name of a list, one to a line.
-fn cases(names: &[u8]) {
+fn cases<R: Files, W: Write>(rt: &R, output: &mut W, names: &[u8]) -> io::Result<()> {
     let mut from = 0;
     for i in 0..names.len() {
         if names[i] == b'\n' {
-            case(&names[from..i]);
+            case(rt, output, &names[from..i])?;
             from = i + 1;
         }
     }
+    Ok(())
 }
 
-fn main() {
-    let fd = os::open_read(b"names");
-    if fd < 0 {
-        io::write_all(OUT, b"names cannot be opened\n");
-        return;
-    }
+fn main(rt: HostRuntime) -> io::Result<()> {
+    let mut output = rt.stdout();
+    let Ok(mut file) = fs::open(&rt, "names") else {
+        return output.write_all(b"names cannot be opened\n");
+    };
     let mut names = [0u8; NAMES];
-    let n = io::read_full(fd, &mut names);
-    libc::close(fd);
-    cases(&names[..n]);
+    let n = session::read_full(&mut file, &mut names)?;
+    cases(&rt, &mut output, &names[..n])
 }
