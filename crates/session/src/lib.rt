@@ -1,40 +1,48 @@
 // What the window program does with its input (document 01, "Window program"): a proposal, a confirmation, then windows. It reads, calls
 // and prints. Every refusal comes from a call, which is lent as many bytes as came.
 #![tactic(auto)]
-ghost use Rattle.std.specs.Prelude.{◌≡◌, List, ℕ, ◌≤◌, IfOk, OnErr, eqb, length};
-ghost use Rattle.io.specs.Counts.{IsPrefixLen};
-ghost use Rattle.gorsepetal.specs.Calls.{Proposed, Confirmed};
 
+ghost use Rattle.std.specs.Prelude.{◌≡◌, List, ℕ, ◌≤◌, [], IfOk, OnOk, OnErr, IfSome, eqb, length, take};
+ghost use Rattle.std.specs.Io.{ReadsAtMost};
+ghost use Rattle.std.specs.Io.KnownBytes.{Consumes, Appends};
+ghost use Rattle.gorsepetal.specs.Calls.{Proposed, Confirmed};
+ghost use Rattle.session.specs.Taken.{Takes};
+ghost use Rattle.session.specs.Session.{entry_text, Windowed, lines, session_text};
+
+use gorsepetal::RECORD_LENGTH;
 use std::io;
 use std::io::{Read, Write};
 
 // Room for the bytes of any window.
 const WINDOW_ROOM: usize = 2 * gorsepetal::LONGEST_WINDOW_NUMBERS;
 
-// A first entry from the input. The number given back and the state are as propose promises for some entry e; for which, no contract
-// can say.
+// A first entry from the input. The number given back and the state are as propose promises for some entry e; for which, a contract
+// can say only where the input's bytes are known: the first 32 of them.
 fn propose<R: Read>(input: &mut R, state: &mut [u8]) -> io::Result<u64>
-    ensures ok { IfOk result (λ r. (e : List ℕ) × Proposed state.old e r state.new) }
+    ensures ok { IfOk result (λ r. (e : List ℕ) × Proposed state.old e r state.new
+        × Takes (R.remaining input.old) (R.remaining input.new) RECORD_LENGTH e) }
     ensures err { OnErr result (state.new ≡ state.old) }
 {
-    let mut entry = [0u8; gorsepetal::RECORD_LENGTH];
+    let mut entry = [0u8; RECORD_LENGTH];
     let n = read_full(input, &mut entry)?;
     Ok(gorsepetal::gorsepetal_propose(state, &entry[..n]))
 }
 
 // A second entry from the input, likewise.
 fn confirm<R: Read>(input: &mut R, state: &mut [u8]) -> io::Result<u64>
-    ensures ok { IfOk result (λ r. (e : List ℕ) × Confirmed state.old e r state.new) }
+    ensures ok { IfOk result (λ r. (e : List ℕ) × Confirmed state.old e r state.new
+        × Takes (R.remaining input.old) (R.remaining input.new) RECORD_LENGTH e) }
     ensures err { OnErr result (state.new ≡ state.old) }
 {
-    let mut entry = [0u8; gorsepetal::RECORD_LENGTH];
+    let mut entry = [0u8; RECORD_LENGTH];
     let n = read_full(input, &mut entry)?;
     Ok(gorsepetal::gorsepetal_confirm(state, &entry[..n]))
 }
 
 // Whether an entry was accepted, by the number given back. The line of a refused one is printed; a good one prints nothing.
 fn accepted<W: Write>(output: &mut W, r: u64) -> io::Result<bool>
-    ensures { IfOk result (λ good. good ≡ eqb r 0) }
+    ensures good { IfOk result (λ good. good ≡ eqb r 0) }
+    ensures line { OnOk result (Appends (W.contents output.old) (W.contents output.new) (entry_text r [])) }
 {
     if r != answers::DONE {
         let mut line = [0u8; report::LINE_LENGTH];
@@ -46,7 +54,11 @@ fn accepted<W: Write>(output: &mut W, r: u64) -> io::Result<bool>
 
 // Reads until the room is full or the input ends, and answers how many bytes came to its front.
 pub fn read_full<R: Read>(input: &mut R, room: &mut [u8]) -> io::Result<usize>
-    ensures { IfOk result (λ n. IsPrefixLen n room.new) }
+    ensures front { ReadsAtMost result room.new }
+    ensures taken { IfOk result (λ n. Takes (R.remaining input.old) (R.remaining input.new) (length room.old) (take n room.new)) }
+
+    // What came before an error lies at the front of the room too.
+    ensures err { OnErr result ((n : ℕ) × Consumes (R.remaining input.old) (R.remaining input.new) (take n room.new)) }
 {
     let mut at = 0;
     while at < room.len() {
@@ -62,7 +74,9 @@ pub fn read_full<R: Read>(input: &mut R, room: &mut [u8]) -> io::Result<usize>
 // Reads so many bytes to the front of the room, and answers how many came: fewer where the input ends.
 fn read<R: Read>(input: &mut R, room: &mut [u8], bytes: usize) -> io::Result<usize>
     requires { bytes ≤ length room.old }
-    ensures { IfOk result (λ n. IsPrefixLen n room.new × (n ≤ bytes)) }
+    ensures front { ReadsAtMost result room.new }
+    ensures asked { IfOk result (λ n. n ≤ bytes) }
+    ensures taken { IfOk result (λ n. Takes (R.remaining input.old) (R.remaining input.new) bytes (take n room.new)) }
 {
     read_full(input, &mut room[..bytes])
 }
@@ -73,7 +87,10 @@ fn one_window<R: Read, W: Write>(
     output: &mut W,
     state: &[u8],
     number: u64,
-) -> io::Result<bool> {
+) -> io::Result<bool>
+    ensures { IfOk result (λ more. Windowed (R.remaining input.old) (R.remaining input.new) state.now number
+        (W.contents output.old) (W.contents output.new) more) }
+{
     let mut samples = [0u8; WINDOW_ROOM];
     let n = read(input, &mut samples, gorsepetal::window_bytes(state))?;
     if n == 0 {
@@ -88,11 +105,10 @@ fn one_window<R: Read, W: Write>(
 }
 
 // Windows to the end of the input, numbered from 1, refused ones counted.
-fn all_windows<R: Read, W: Write>(
-    input: &mut R,
-    output: &mut W,
-    state: &[u8],
-) -> io::Result<()> {
+fn all_windows<R: Read, W: Write>(input: &mut R, output: &mut W, state: &[u8]) -> io::Result<()>
+    ensures { OnOk result (IfSome (R.remaining input.old) (λ xs.
+        Appends (W.contents output.old) (W.contents output.new) (lines state.now xs))) }
+{
     let mut number = 1;
     while number < u64::MAX && one_window(input, output, state, number)? {
         number += 1;
@@ -101,7 +117,10 @@ fn all_windows<R: Read, W: Write>(
 }
 
 // The session on one input: after two good entries, its windows.
-pub fn run<R: Read, W: Write>(input: &mut R, output: &mut W) -> io::Result<()> {
+pub fn run<R: Read, W: Write>(input: &mut R, output: &mut W) -> io::Result<()>
+    ensures { OnOk result (IfSome (R.remaining input.old) (λ xs.
+        Appends (W.contents output.old) (W.contents output.new) (session_text xs))) }
+{
     let mut state = [0u8; gorsepetal::STATE_LENGTH];
     let r = propose(input, &mut state)?;
     if !accepted(output, r)? {

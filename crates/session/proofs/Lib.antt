@@ -1,0 +1,4 @@
+-- What belongs to no one function.
+pub mod Lines
+pub mod Windows
+pub mod Entries
