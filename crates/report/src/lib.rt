@@ -79,7 +79,7 @@ pub fn window_line(
     decision: &[u8; gorsepetal::DECISION_LENGTH],
 ) -> usize
     requires { line_length ≤ length out.old }
-    ensures { Written out.old 0 (window_line number r decision.now) result out.new × (decision.now ≡ decision.now) }
+    ensures { Written out.old 0 (window_line number r decision.now) result out.new × (decision.exit.now ≡ decision.entry.now) }
 {
     if r != answers::DONE {
         return window_refused(out, number, r);
