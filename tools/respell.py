@@ -21,7 +21,7 @@ DECLARED = re.compile(
     re.M,
 )
 ALIAS = re.compile(r"^use\s[^\n{}]*?\sas\s+([\w'+-]+)$", re.M)
-# Names that the check itself looks for, made from a loop, a step or a call; they come with the proofs.
+# Names that the check itself looks for, made from a loop, a step or a call, in the proof files of functions; they come with the proofs.
 MADE = re.compile(r"(?:invariant|decreases|overflow|returns|loop\d*|cast|mul|add|sub|rem|neg|slice|shared)-|.*-requires(-\d+)?$|.*-with-sample")
 # Behind these names of modules stands a theorem, not a field.
 MODULES = {"balanced", "event-files", "hand-checks"}
@@ -47,14 +47,16 @@ def read(path):
 
 
 def table():
-    names, aliases = set(), set()
+    names, aliases, others = set(), set(), set()
     for path in texts(".antt"):
         code = QUIET.sub(lambda m: "\n" * m.group().count("\n"), read(path))
         names |= set(DECLARED.findall(code))
+        if not path.endswith("/Proof.antt"):
+            others |= set(DECLARED.findall(code))
         aliases |= set(ALIAS.findall(code))
     # a name of a module turns where no definition then has it too
     spelled = {snake(n) for n in names}
-    names = {n for n in names | {a for a in aliases if snake(a) not in spelled} if not MADE.match(n)}
+    names = {n for n in names | {a for a in aliases if snake(a) not in spelled} if n in others or not MADE.match(n)}
     turned = {n: snake(n) for n in names}
     same = collections.defaultdict(set)
     for old, new in turned.items():

@@ -72,7 +72,7 @@ no_voltage s w out d c dead =
     let told = (demand_2 s w out d c).0 in
     let quiet : (r : ℕ) → loop_bits (replica s) (pos r) (six_loops s w) ≡ 0 = λ r. no_positive (replica s) (compensation s) (pos r) (voltages s w) (currents_of_end1 s w) dead in
     let first : byte d 2 ≡ 0 = ap (λ x. byte x 2) (front c) ∙ quiet (reach s) in
-    let none : AnyOf (loop_facts s w (reach s)) → ⊥ = none_told 0 (loop_facts s w (reach s)) (subst (λ n. BitsTell n 0 (loop_facts s w (reach s))) first told.loop-bits) in (
+    let none : AnyOf (loop_facts s w (reach s)) → ⊥ = none_told 0 (loop_facts s w (reach s)) (subst (λ n. BitsTell n 0 (loop_facts s w (reach s))) first told.loop_bits) in (
       first,
       ap (λ x. byte x 4) (front c) ∙ no_loops (eqb (second_reach s) 0) (loop_bits (replica s) (pos (second_reach s)) (six_loops s w)) (quiet (second_reach s)),
       by_others s w d told (λ ahead. none ahead.1) (λ balanced. none (among s w (reach s) balanced.1)),

@@ -257,7 +257,7 @@ module _ (s : List ℕ) (w : List ℤ) where
         no_trip = nought _ trips;
         phase_bits = rw phase_byte_is (bits_tell (phase_list R) (phase_facts s w ++ quadrilateral_facts s w) each_of_six);
         three_and_three = let h = bits_most (phase_list R) in omega (arith, h, phase_byte_is);
-        loop-bits = bits_tell (assert (reach s)) (loop_facts s w (reach s)) (each_loop (reach s));
+        loop_bits = bits_tell (assert (reach s)) (loop_facts s w (reach s)) (each_loop (reach s));
         six_bits = few_bits (reach s);
         forward = (λ e. forward.0 (number_1 d e), λ f. ap direction_number (forward.1 f));
         reverse = (λ e. reverse.0 (number_2 d e), λ f. ap direction_number (reverse.1 f));

@@ -107,9 +107,9 @@ trip_has_reason r w out d c tripped =
     ⊎_elim
     (λ any. let p = which r w any in let set = bit_set r w out d c p.0 p.1 p.2 in inl (p.0, p.1, set, demand_3_first r w out d p.0 p.1 c set))
     (⊎_elim
-    (λ ahead. inr (inl (told.forward.1 ahead.0, λ none. none_told 0 (loop_facts r w (reach r)) (subst (λ n. BitsTell n 0 (loop_facts r w (reach r))) none told.loop-bits) ahead.1)))
+    (λ ahead. inr (inl (told.forward.1 ahead.0, λ none. none_told 0 (loop_facts r w (reach r)) (subst (λ n. BitsTell n 0 (loop_facts r w (reach r))) none told.loop_bits) ahead.1)))
     (⊎_elim
-    (λ balanced. let three = told.loop-bits.1.1.1 in let all = balanced.1 in
+    (λ balanced. let three = told.loop_bits.1.1.1 in let all = balanced.1 in
     inr (inr (inl (balanced.0, reads_none r w d told balanced.0, (three.0.1 all.0, (three.1.0.1 all.1.0, (three.1.1.0.1 all.1.1.0, tt)))))))
     (λ any. inr (inr (inr (told.forward.1 (which_quadrilateral r w any).1.0.1, let bit = quadrilateral_bit r w d told any in from_bit_3 bit.0 (byte d 1) bit.1))))))
     (told.trip.0 tripped)

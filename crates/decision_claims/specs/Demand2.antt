@@ -123,7 +123,7 @@ pub record Tells (s : List ℕ) (w : List ℤ) (d : List ℕ) : Type 0 where
   pub phase_bits : BitsTell (byte d 1) 0 (phase_facts s w ++ quadrilateral_facts s w)
   pub three_and_three : byte d 1 < 64
   -- byte 2: "loops AG 1, BG 2, CG 4, AB 8, BC 16, CA 32"
-  pub loop-bits : BitsTell (byte d 2) 0 (loop_facts s w (reach s))
+  pub loop_bits : BitsTell (byte d 2) 0 (loop_facts s w (reach s))
   pub six_bits : byte d 2 < 64
   -- byte 3: "0 none, 1 forward, 2 reverse"
   pub forward : Exactly (byte d 3 ≡ 1) (DirectionForward s w)

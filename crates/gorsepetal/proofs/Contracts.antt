@@ -4,7 +4,8 @@ use Prim.Native.Nat.{ℕ, ◌*◌, ◌≤◌}
 use mathlib.Core.Path.{◌≡◌}
 use mathlib.Core.List.{List}
 use contract.Lifetimes.{Lfts}
-use denote.Ref.{Bor}
+use denote.Bor.{Bor}
+use denote.MutBor.{MutBor}
 use lib.IntN.{ℤ}
 use Rattle.answers.specs.declared.Answer.{Answer}
 use Rattle.samples.specs.Window.{window_length}
@@ -30,53 +31,53 @@ the_claim = record { asks_nothing = tt; promise = λ p. p; no_more = λ p. p }
 
 abbrev pub ProposeContract : Type 0
 ProposeContract =
-    (κs : Lfts 2) (s e s' e' : Bor (List ℕ)) (n : ℕ)
+    (κs : Lfts 2) (s s' : MutBor (List ℕ)) (e e' : Bor (List ℕ)) (n : ℕ)
     → Promises (propose.Pre κs (s, (e, tt))) (propose.Post κs (s, (e, tt)) n (s', (e', tt))) (Proposed s.now e.now n s'.now × Unchanged e.now e'.now)
 
 pub propose_contract : ProposeContract
-propose_contract κs s e s' e' n = the_claim
+propose_contract κs s s' e e' n = the_claim
 
 abbrev pub ConfirmContract : Type 0
 ConfirmContract =
-    (κs : Lfts 2) (s e s' e' : Bor (List ℕ)) (n : ℕ)
+    (κs : Lfts 2) (s s' : MutBor (List ℕ)) (e e' : Bor (List ℕ)) (n : ℕ)
     → Promises (confirm.Pre κs (s, (e, tt))) (confirm.Post κs (s, (e, tt)) n (s', (e', tt))) (Confirmed s.now e.now n s'.now × Unchanged e.now e'.now)
 
 pub confirm_contract : ConfirmContract
-confirm_contract κs s e s' e' n = the_claim
+confirm_contract κs s s' e e' n = the_claim
 
 abbrev pub ReadBackContract : Type 0
 ReadBackContract =
-    (κs : Lfts 2) (s out s' out' : Bor (List ℕ)) (n : ℕ)
+    (κs : Lfts 2) (s s' : Bor (List ℕ)) (out out' : MutBor (List ℕ)) (n : ℕ)
     → Promises (read_back.Pre κs (s, (out, tt))) (read_back.Post κs (s, (out, tt)) n (s', (out', tt))) (ReadBack s.now out.now n out'.now × Unchanged s.now s'.now)
 
 pub read_back_contract : ReadBackContract
-read_back_contract κs s out s' out' n = the_claim
+read_back_contract κs s s' out out' n = the_claim
 
 abbrev pub DecideContract : Type 0
 DecideContract =
-    (κs : Lfts 3) (s b out s' b' out' : Bor (List ℕ)) (n : ℕ)
+    (κs : Lfts 3) (s b s' b' : Bor (List ℕ)) (out out' : MutBor (List ℕ)) (n : ℕ)
     → Promises (decide.Pre κs (s, (b, (out, tt)))) (decide.Post κs (s, (b, (out, tt))) n (s', (b', (out', tt)))) (Decided s.now b.now out.now n out'.now × Unchanged s.now s'.now × Unchanged b.now b'.now)
 
 pub decide_contract : DecideContract
-decide_contract κs s b out s' b' out' n = the_claim
+decide_contract κs s b s' b' out out' n = the_claim
 
 abbrev pub FeedContract : Type 0
 FeedContract =
-    (κs : Lfts 3) (s f out s' f' out' : Bor (List ℕ)) (n : ℕ)
+    (κs : Lfts 3) (s s' : MutBor (List ℕ)) (f f' : Bor (List ℕ)) (out out' : MutBor (List ℕ)) (n : ℕ)
     → Promises (feed.Pre κs (s, (f, (out, tt)))) (feed.Post κs (s, (f, (out, tt))) n (s', (f', (out', tt)))) (Fed s.now f.now out.now n s'.now out'.now × Unchanged f.now f'.now)
 
 pub feed_contract : FeedContract
-feed_contract κs s f out s' f' out' n = the_claim
+feed_contract κs s s' f f' out out' n = the_claim
 
 -- ---- and inside: decide on a window of numbers, and how many bytes a window has, which the window program asks for
 
 abbrev pub DecideNumbersContract : Type 0
 DecideNumbersContract =
-    (κs : Lfts 3) (s : Bor (List ℕ)) (w : Bor (List ℤ)) (out s' : Bor (List ℕ)) (w' : Bor (List ℤ)) (out' : Bor (List ℕ)) (a : Answer)
+    (κs : Lfts 3) (s s' : Bor (List ℕ)) (w w' : Bor (List ℤ)) (out out' : MutBor (List ℕ)) (a : Answer)
     → Promises (decide_numbers.Pre κs (s, (w, (out, tt)))) (decide_numbers.Post κs (s, (w, (out, tt))) a (s', (w', (out', tt)))) (DecidedNumbers s.now w.now out.now a out'.now × Unchanged s.now s'.now × Unchanged w.now w'.now)
 
 pub decide_numbers_contract : DecideNumbersContract
-decide_numbers_contract κs s w out s' w' out' a = the_claim
+decide_numbers_contract κs s s' w w' out out' a = the_claim
 
 abbrev pub WindowBytesContract : Type 0
 WindowBytesContract =

@@ -2,7 +2,8 @@
 use Prim.Native.Nat.{ℕ}
 use mathlib.Core.List.{List}
 use contract.Lifetimes.{Lfts}
-use denote.Ref.{Bor}
+use denote.Bor.{Bor}
+use denote.MutBor.{MutBor}
 use Rattle.gorsepetal.specs.Calls.{Unchanged}
 use Rattle.gorsepetal.specs.EventFiles.{EventsOpened, EventsWanted, EventsRead, EventsEnded, EventsWritten}
 use Rattle.gorsepetal.proofs.Contracts.{Promises, the_claim}
@@ -14,7 +15,7 @@ use Rattle.gorsepetal.proofs.event_files.gorsepetal_events_write.Reads as write_
 
 abbrev pub EventsOpenContract : Type 0
 EventsOpenContract =
-    (κs : Lfts 1) (r r' : Bor (List ℕ)) (ends status n : ℕ)
+    (κs : Lfts 1) (r r' : MutBor (List ℕ)) (ends status n : ℕ)
     → Promises (open_call.Pre κs (r, (ends, (status, tt)))) (open_call.Post κs (r, (ends, (status, tt))) n (r', (ends, (status, tt)))) (EventsOpened r.now ends status n r'.now)
 
 pub events_open_contract : EventsOpenContract
@@ -30,15 +31,15 @@ events_wanted_contract κs r r' n = the_claim
 
 abbrev pub EventsReadContract : Type 0
 EventsReadContract =
-    (κs : Lfts 4) (s r p out s' r' p' out' : Bor (List ℕ)) (n : ℕ)
+    (κs : Lfts 4) (s r s' r' : MutBor (List ℕ)) (p p' : Bor (List ℕ)) (out out' : MutBor (List ℕ)) (n : ℕ)
     → Promises (read_call.Pre κs (s, (r, (p, (out, tt))))) (read_call.Post κs (s, (r, (p, (out, tt)))) n (s', (r', (p', (out', tt))))) (EventsRead s.now r.now p.now out.now n s'.now r'.now out'.now × Unchanged p.now p'.now)
 
 pub events_read_contract : EventsReadContract
-events_read_contract κs s r p out s' r' p' out' n = the_claim
+events_read_contract κs s r s' r' p p' out out' n = the_claim
 
 abbrev pub EventsEndContract : Type 0
 EventsEndContract =
-    (κs : Lfts 1) (r r' : Bor (List ℕ)) (n : ℕ)
+    (κs : Lfts 1) (r r' : MutBor (List ℕ)) (n : ℕ)
     → Promises (end_call.Pre κs (r, tt)) (end_call.Post κs (r, tt) n (r', tt)) (EventsEnded r.now n r'.now)
 
 pub events_end_contract : EventsEndContract
@@ -46,8 +47,8 @@ events_end_contract κs r r' n = the_claim
 
 abbrev pub EventsWriteContract : Type 0
 EventsWriteContract =
-    (κs : Lfts 2) (ends written time : ℕ) (f out f' out' : Bor (List ℕ)) (n : ℕ)
+    (κs : Lfts 2) (ends written time : ℕ) (f f' : Bor (List ℕ)) (out out' : MutBor (List ℕ)) (n : ℕ)
     → Promises (write_call.Pre κs (ends, (written, (time, (f, (out, tt)))))) (write_call.Post κs (ends, (written, (time, (f, (out, tt))))) n (ends, (written, (time, (f', (out', tt)))))) (EventsWritten ends written time f.now out.now n out'.now × Unchanged f.now f'.now)
 
 pub events_write_contract : EventsWriteContract
-events_write_contract κs ends written time f out f' out' n = the_claim
+events_write_contract κs ends written time f f' out out' n = the_claim

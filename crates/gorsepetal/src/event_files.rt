@@ -16,7 +16,7 @@ pub extern "C" fn gorsepetal_events_open(reader: &mut [u8], ends: u64, status: u
 // How many bytes are missing to the end of the record being read; 0 where the reading has ended. It is a count and no answer.
 #[unsafe(no_mangle)]
 pub extern "C" fn gorsepetal_events_wanted(reader: &[u8]) -> u64
-    ensures { EventsWanted reader.now result × Unchanged reader.now reader.now }
+    ensures { EventsWanted reader.now result × Unchanged reader.entry.now reader.exit.now }
 {
     events::wanted(reader) as u64
 }
@@ -29,7 +29,7 @@ pub extern "C" fn gorsepetal_events_read(
     bytes: &[u8],
     out: &mut [u8],
 ) -> u64
-    ensures { EventsRead state.old reader.old bytes.now out.old result state.new reader.new out.new × Unchanged bytes.now bytes.now }
+    ensures { EventsRead state.old reader.old bytes.now out.old result state.new reader.new out.new × Unchanged bytes.entry.now bytes.exit.now }
 {
     if state.len() != crate::STATE_LENGTH {
         return answers::given_back(Answer::NoRelay);
@@ -65,7 +65,7 @@ pub extern "C" fn gorsepetal_events_write(
     frame: &[u8],
     out: &mut [u8],
 ) -> u64
-    ensures { EventsWritten ends written time frame.now out.old result out.new × Unchanged frame.now frame.now }
+    ensures { EventsWritten ends written time frame.now out.old result out.new × Unchanged frame.entry.now frame.exit.now }
 {
     answers::given_back(records::write(ends, written, time, frame, out))
 }

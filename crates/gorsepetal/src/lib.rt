@@ -69,7 +69,7 @@ fn in_force(state: &[u8]) -> Answer
 // A first entry: it becomes pending if it is good.
 #[unsafe(no_mangle)]
 pub extern "C" fn gorsepetal_propose(state: &mut [u8], entry: &[u8]) -> u64
-    ensures { Proposed state.old entry.now result state.new × Unchanged entry.now entry.now }
+    ensures { Proposed state.old entry.now result state.new × Unchanged entry.entry.now entry.exit.now }
 {
     if state.len() != STATE_LENGTH {
         return answers::given_back(Answer::NoRelay);
@@ -80,7 +80,7 @@ pub extern "C" fn gorsepetal_propose(state: &mut [u8], entry: &[u8]) -> u64
 // A second entry: the pending record comes into force if this one is the same 32 bytes, and the window is empty then.
 #[unsafe(no_mangle)]
 pub extern "C" fn gorsepetal_confirm(state: &mut [u8], entry: &[u8]) -> u64
-    ensures { Confirmed state.old entry.now result state.new × Unchanged entry.now entry.now }
+    ensures { Confirmed state.old entry.now result state.new × Unchanged entry.entry.now entry.exit.now }
 {
     if state.len() != STATE_LENGTH {
         return answers::given_back(Answer::NoRelay);
@@ -97,7 +97,7 @@ pub extern "C" fn gorsepetal_confirm(state: &mut [u8], entry: &[u8]) -> u64
 // The record in force, at the front of a lent buffer.
 #[unsafe(no_mangle)]
 pub extern "C" fn gorsepetal_read_back(state: &[u8], out: &mut [u8]) -> u64
-    ensures { ReadBack state.now out.old result out.new × Unchanged state.now state.now }
+    ensures { ReadBack state.now out.old result out.new × Unchanged state.entry.now state.exit.now }
 {
     if state.len() != STATE_LENGTH {
         return answers::given_back(Answer::NoRelay);
@@ -115,7 +115,7 @@ pub extern "C" fn gorsepetal_read_back(state: &[u8], out: &mut [u8]) -> u64
 
 // How many bytes a window has by the record in force; 0 where none is.
 pub fn window_bytes(state: &[u8]) -> usize
-    ensures { (result ≡ window_bytes state.now) × (result ≤ 2 * window_length 6) × Unchanged state.now state.now }
+    ensures { (result ≡ window_bytes state.now) × (result ≤ 2 * window_length 6) × Unchanged state.entry.now state.exit.now }
 {
     if state.len() != STATE_LENGTH {
         return 0;
@@ -129,7 +129,7 @@ pub fn window_bytes(state: &[u8]) -> usize
 
 // The decision on a window of numbers, at the front of a lent buffer.
 pub fn decide(state: &[u8], window: &[i16], out: &mut [u8]) -> Answer
-    ensures { DecidedNumbers state.now window.now out.old result out.new × Unchanged state.now state.now × Unchanged window.now window.now }
+    ensures { DecidedNumbers state.now window.now out.old result out.new × Unchanged state.entry.now state.exit.now × Unchanged window.entry.now window.exit.now }
 {
     if state.len() != STATE_LENGTH {
         return Answer::NoRelay;
@@ -144,7 +144,7 @@ pub fn decide(state: &[u8], window: &[i16], out: &mut [u8]) -> Answer
 // The same on a window of big-endian bytes.
 #[unsafe(no_mangle)]
 pub extern "C" fn gorsepetal_decide(state: &[u8], samples: &[u8], out: &mut [u8]) -> u64
-    ensures { Decided state.now samples.now out.old result out.new × Unchanged state.now state.now × Unchanged samples.now samples.now }
+    ensures { Decided state.now samples.now out.old result out.new × Unchanged state.entry.now state.exit.now × Unchanged samples.entry.now samples.exit.now }
 {
     let n = samples::count(samples);
     let mut numbers = [0i16; LONGEST_WINDOW_NUMBERS];
@@ -155,7 +155,7 @@ pub extern "C" fn gorsepetal_decide(state: &[u8], samples: &[u8], out: &mut [u8]
 // One frame of big-endian bytes: it is kept in the window, and the newest 16 frames are decided on.
 #[unsafe(no_mangle)]
 pub extern "C" fn gorsepetal_feed(state: &mut [u8], frame: &[u8], out: &mut [u8]) -> u64
-    ensures { Fed state.old frame.now out.old result state.new out.new × Unchanged frame.now frame.now }
+    ensures { Fed state.old frame.now out.old result state.new out.new × Unchanged frame.entry.now frame.exit.now }
 {
     if state.len() != STATE_LENGTH {
         return answers::given_back(Answer::NoRelay);

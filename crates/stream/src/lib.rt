@@ -85,8 +85,7 @@ pub fn moved_on(w: &mut Window, frame: &[i16], channels: usize)
     *w = with_frame(*w, frame, channels);
 }
 
-// Lends a window that is held by value to `moved_on`, and hands it back. A function that lends a struct is proved by hand; this is the one
-// that does.
+// Lends a window that is held by value to `moved_on`, and hands it back.
 pub fn lend(w: Window, frame: &[i16], channels: usize) -> Window
     requires { HasRoom frames channels × (length frame.now ≡ channels) }
     ensures { result ≡ moved_on frames channels w frame.now }

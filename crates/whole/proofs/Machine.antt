@@ -12,7 +12,7 @@ use denote.Floats.{is_true}
 use mir.Syntax.{w64}
 use mir.Val.{SFits, to_z, of_z}
 use mir.Facts.{to_z-of_z}
-use Rattle.whole.proofs.Size.{neg-sizes}
+use Rattle.whole.proofs.Size.{neg_sizes}
 
 -- what the machine reads back of a number's bits
 abbrev pub Read : ℤ → ℤ
@@ -51,5 +51,5 @@ divisor (negsuc n) h = absurd h.lt
 
 pub quot_fits : {s d : ℤ} → pos 0 <ℤ d → SFits w64 s → SFits w64 (quot_z s d)
 quot_fits {s = pos a} {d = pos b} h f = omega (arith, div-le_self a b)
-quot_fits {s = negsuc a} {d = pos b} h f = omega (arith, neg-sizes (suc a / b), div-le_self (suc a) b)
+quot_fits {s = negsuc a} {d = pos b} h f = omega (arith, neg_sizes (suc a / b), div-le_self (suc a) b)
 quot_fits {d = negsuc b} h f = absurd h.lt

@@ -20,9 +20,9 @@ pub sizes : (z : ℤ) → (nat_abs z ≡ up z + down z) × (mag z ≤ nat_abs z)
 sizes (pos n) = omega arith
 sizes (negsuc n) = omega arith
 
-pub neg-sizes : (n : ℕ) → (nat_abs (neg_ℤ (pos n)) ≡ n) × (mag (neg_ℤ (pos n)) ≤ n - 1)
-neg-sizes zero = omega arith
-neg-sizes (suc n) = omega arith
+pub neg_sizes : (n : ℕ) → (nat_abs (neg_ℤ (pos n)) ≡ n) × (mag (neg_ℤ (pos n)) ≤ n - 1)
+neg_sizes zero = omega arith
+neg_sizes (suc n) = omega arith
 
 -- a difference of two natural numbers is no larger than both together
 abs_most : {x : ℤ} (d : Diff x) → nat_abs x ≤ d.plus + d.minus
@@ -31,8 +31,8 @@ abs_most {x = negsuc n} d = omega (arith, d.is)
 
 pub abs_mul : (x y : ℤ) → nat_abs (x *ℤ y) ≡ nat_abs x * nat_abs y
 abs_mul (pos m) (pos n) = refl
-abs_mul (pos m) (negsuc n) = (neg-sizes (m * suc n)).0
-abs_mul (negsuc m) (pos n) = (neg-sizes (suc m * n)).0
+abs_mul (pos m) (negsuc n) = (neg_sizes (m * suc n)).0
+abs_mul (negsuc m) (pos n) = (neg_sizes (suc m * n)).0
 abs_mul (negsuc m) (negsuc n) = refl
 
 -- a number between -b and b is within b of zero

@@ -37,9 +37,9 @@ pub data Check : Type 0 where
   -- the end phasors, and U
   restraint_is : (ends : List Complex) (U : ℕ) → Check
   -- V, Vp, Z, I, the reach r, and whether the loop asserts
-  loop-asserts : (v vp z i : Complex) (r : ℤ) (b : Bool) → Check
+  loop_asserts : (v vp z i : Complex) (r : ℤ) (b : Bool) → Check
   -- V, Vp, Z, I: the loop asserts at no reach
-  loop-never : (v vp z i : Complex) → Check
+  loop_never : (v vp z i : Complex) → Check
   -- D and zf of the settings, 3I2, 3V2, and the direction
   direction_is : (d : Complex) (zf : ℤ) (i2 v2 : Complex) (side : Direction) → Check
   -- the settings' pickup of 3I2, 3I2, and whether it passes
@@ -74,8 +74,8 @@ Holds (phasor_is x p) = phasor_of (rate_of example_record) x ≡ phasor p
 Holds (negative_sequence_is ia ib ic i2) = negative_sequence (record { a = phasor ia; b = phasor ib; c = phasor ic }) ≡ phasor i2
 Holds (phase_operates ends K pickup b) = operates K pickup (comparison (end_phasor ends) (length ends)) ≡ b
 Holds (restraint_is ends U) = restraint (end_phasor ends) (length ends) ≡ U
-Holds (loop-asserts v vp z i r b) = asserts r (ratio_of (phasor z) (loop v vp i)) ≡ b
-Holds (loop-never v vp z i) = (r : ℤ) → asserts r (ratio_of (phasor z) (loop v vp i)) ≡ false
+Holds (loop_asserts v vp z i r b) = asserts r (ratio_of (phasor z) (loop v vp i)) ≡ b
+Holds (loop_never v vp z i) = (r : ℤ) → asserts r (ratio_of (phasor z) (loop v vp i)) ≡ false
 Holds (direction_is d zf i2 v2 side) =
     (direction_of (with_limit zf) (phasor v2) (phasor i2) ≡ side) × (checked (with_limit zf) ≡ Good)
     × (angle (with_limit zf) ≡ phasor d) × (forward_limit (with_limit zf) ≡ zf)
@@ -112,10 +112,10 @@ hand_checks =
     ∷ phase_operates ((pos 1, pos 1) ∷ (pos 1, pos 1) ∷ []) 99 2 true
     ∷ phase_operates ((pos 1, pos 1) ∷ (pos 1, pos 1) ∷ []) 99 3 false
     -- P12: reaches 500 and 499
-    ∷ loop-asserts (pos 500, pos 0) (pos 1000, pos 0) (pos 0, pos 1000) (pos 0, negated 1000) (pos 500) true
-    ∷ loop-asserts (pos 500, pos 0) (pos 1000, pos 0) (pos 0, pos 1000) (pos 0, negated 1000) (pos 499) false
+    ∷ loop_asserts (pos 500, pos 0) (pos 1000, pos 0) (pos 0, pos 1000) (pos 0, negated 1000) (pos 500) true
+    ∷ loop_asserts (pos 500, pos 0) (pos 1000, pos 0) (pos 0, pos 1000) (pos 0, negated 1000) (pos 499) false
     -- P13: I = (0,1000)
-    ∷ loop-never (pos 500, pos 0) (pos 1000, pos 0) (pos 0, pos 1000) (pos 0, pos 1000)
+    ∷ loop_never (pos 500, pos 0) (pos 1000, pos 0) (pos 0, pos 1000) (pos 0, pos 1000)
     -- P14: zf = -499 and -500; pickups 100 and 101
     ∷ direction_is (pos 0, pos 1000) (negated 499) (pos 100, pos 0) (pos 0, negated 50) Forward
     ∷ direction_is (pos 0, pos 1000) (negated 500) (pos 100, pos 0) (pos 0, negated 50) None

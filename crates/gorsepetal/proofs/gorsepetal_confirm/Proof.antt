@@ -5,15 +5,10 @@ use Rattle.gorsepetal.proofs.gorsepetal_confirm.Statement.{statement}
 use Rattle.gorsepetal.proofs.gorsepetal_confirm.Tie as tie
 
 -- here a search would compare the window's 336 zeros with every fact that is known
-returns-3 : tie.Need-returns-3
-returns-3 c =
-    let cleared = c.before.before.before in
-    let passed = cleared.before.before in
-    let entered = passed.before.before.before.before in
-    let stood = entered.before.before in
-    let relay = stood.before.before.before in (
-      confirm_done relay.if1.false c.given-back3.ensures stood.of-stored.ensures entered.confirm.ensures passed.before.is_done.ensures
-          passed.if2.false cleared.clear.ensures,
+returns-3 : tie.Need-returns
+returns-3 c = (
+      confirm_done c.if-state-ne-STATE_LENGTH.false c.given_back-2.ensures c.of_stored-standing.ensures c.confirm-answer.ensures c.is_done.ensures
+          c.if-not-is_done.false c.clear.ensures,
       search rules,
     )
 

@@ -9,11 +9,9 @@ use Rattle.gorsepetal.proofs.gorsepetal_decide.Tie as tie
 
 returns : tie.Need-returns
 returns c =
-    let d = c.before.before.before in
-    let m = d.before.before.before.before.before in
-    let k = m.before.before.count.ensures in
-    let taken = ap (λ n. take n m.numbers2.new.1.0) (sub-zero _ ∙ k.0) ∙ m.numbers2.ensures in
-    (decide_bytes _ _ _ _ taken (rw (← k.0) k.1) _ _ _ c.given_back.ensures d.decide.ensures.0, search rules, search rules)
+    let k = c.count-n.ensures in
+    let taken = ap (λ n. take n c.numbers.new.samples) (sub-zero _ ∙ k.0) ∙ c.numbers.ensures in
+    (decide_bytes _ _ _ _ taken (rw (← k.0) k.1) _ _ _ c.given_back.ensures c.decide.ensures.0, search rules, search rules)
 
 pub gorsepetal_decide_spec : {M : Type 1} → statement M
 gorsepetal_decide_spec =

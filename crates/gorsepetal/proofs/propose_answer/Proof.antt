@@ -6,17 +6,17 @@ use Rattle.gorsepetal.specs.Calls.{of_check}
 use Rattle.gorsepetal.proofs.propose_answer.Statement.{statement}
 use Rattle.gorsepetal.proofs.propose_answer.Tie as tie
 
-returns-2 : tie.Need-returns-2
+returns-2 : tie.Need-returns-in-Good
 returns-2 c =
-    let k = c.before.before in rw (eq-eqb _ 32 k.before.if1.false) (ap of_check (sym c.enum_told.given.1 ∙ k.check.ensures))
+    rw (eq-eqb _ 32 c.if-r-ne-RECORD_LENGTH.false) (ap of_check (sym c.in-Good.is ∙ c.check.ensures))
 
-returns-3 : tie.Need-returns-3
+returns-3 : tie.Need-returns-in-Bad
 returns-3 c =
-    let k = c.before.before.before in rw (eq-eqb _ 32 k.before.if1.false) (ap of_check (sym c.before.at.given.1 ∙ k.check.ensures))
+    rw (eq-eqb _ 32 c.if-r-ne-RECORD_LENGTH.false) (ap of_check (sym c.in-Bad.is ∙ c.check.ensures))
 
 pub propose_answer_spec : {M : Type 1} → statement M
 propose_answer_spec =
     tie.close
     (tie.spec
-    (λ c. rw (ne_eqb _ 32 c.if1.true)) (λ c κs. search rules) (λ c. search rules) (λ c. search rules) returns-2
+    (λ c. rw (ne_eqb _ 32 c.if-r-ne-RECORD_LENGTH.true)) (λ c κs. search rules) (λ c. search rules) (λ c. search rules) returns-2
     returns-3)
