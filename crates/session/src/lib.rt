@@ -132,3 +132,36 @@ pub fn run<R: Read, W: Write>(input: &mut R, output: &mut W) -> io::Result<()>
     }
     all_windows(input, output, &state)
 }
+
+#[cfg(test)]
+mod tests {
+    use super::*;
+
+    // An input that fails.
+    #[derive(Drop)]
+    struct Broken;
+
+    impl Read for Broken {
+        fn read(&mut self, _room: &mut [u8]) -> io::Result<usize> {
+            Err(io::Error::from(io::ErrorKind::Other))
+        }
+    }
+
+    #[test]
+    fn an_empty_input_is_a_cut_proposal(rt: HostRuntime) -> io::Result<()> {
+        let mut input: &[u8] = b"";
+        let mut output = Vec::new(rt.alloc());
+        run(&mut input, &mut output)?;
+        assert_eq!(rt; output.as_slice(), b"settings refused 5 at 0\n".as_slice());
+        Ok(())
+    }
+
+    #[test]
+    fn a_failed_read_is_no_cut_proposal(rt: HostRuntime) {
+        let bytes: &[u8] = b"half a proposal";
+        let mut input = bytes.chain(Broken);
+        let mut output = Vec::new(rt.alloc());
+        assert!(rt; run(&mut input, &mut output).is_err());
+        assert_eq!(rt; output.len(), 0);
+    }
+}
