@@ -1,6 +1,7 @@
 // What C calls. The relay's state is lent, and all zero bytes are a fresh relay: the main pair of records, the one in force and then
 // the pending one; and the window that frames are fed to.
 #![tactic(auto)]
+
 ghost use Rattle.std.specs.Prelude.{◌≡◌, ◌*◌, ◌≤◌, length};
 ghost use Rattle.samples.specs.Window.{window_length};
 ghost use Rattle.entry.specs.Pair.{record_length};
