@@ -1,4 +1,4 @@
-// What C calls to read and to write event files (document 02, CR 5). The reader is a second lent state, beside the relay's own.
+// What C calls, by way of gorsepetal_c, to read and to write event files (document 02, CR 5). The reader is a second lent state, beside the relay's own.
 ghost use Rattle.gorsepetal.specs.Calls.{Unchanged};
 ghost use Rattle.gorsepetal.specs.EventFiles.{EventsOpened, EventsWanted, EventsRead, EventsEnded, EventsWritten};
 
@@ -6,24 +6,21 @@ use answers::Answer;
 use events::Step;
 
 // Puts a reader at the start of a file with so many ends and status channels.
-#[unsafe(no_mangle)]
-pub extern "C" fn gorsepetal_events_open(reader: &mut [u8], ends: u64, status: u64) -> u64
+pub fn gorsepetal_events_open(reader: &mut [u8], ends: u64, status: u64) -> u64
     ensures { EventsOpened reader.old ends status result reader.new }
 {
     answers::given_back(events::open(reader, ends, status))
 }
 
 // How many bytes are missing to the end of the record being read; 0 where the reading has ended. It is a count and no answer.
-#[unsafe(no_mangle)]
-pub extern "C" fn gorsepetal_events_wanted(reader: &[u8]) -> u64
+pub fn gorsepetal_events_wanted(reader: &[u8]) -> u64
     ensures { EventsWanted reader.now result × Unchanged reader.entry.now reader.exit.now }
 {
     events::wanted(reader) as u64
 }
 
 // A piece of the file: as many of its bytes are taken as are wanted. Where a record is whole now, its frame is fed.
-#[unsafe(no_mangle)]
-pub extern "C" fn gorsepetal_events_read(
+pub fn gorsepetal_events_read(
     state: &mut [u8],
     reader: &mut [u8],
     bytes: &[u8],
@@ -49,16 +46,14 @@ pub extern "C" fn gorsepetal_events_read(
 }
 
 // The end of the file: whether it ends between records.
-#[unsafe(no_mangle)]
-pub extern "C" fn gorsepetal_events_end(reader: &mut [u8]) -> u64
+pub fn gorsepetal_events_end(reader: &mut [u8]) -> u64
     ensures { EventsEnded reader.old result reader.new }
 {
     answers::given_back(events::end(reader))
 }
 
 // The record of a frame and its time, when so many were written before, at the front of a lent buffer.
-#[unsafe(no_mangle)]
-pub extern "C" fn gorsepetal_events_write(
+pub fn gorsepetal_events_write(
     ends: u64,
     written: u64,
     time: u32,

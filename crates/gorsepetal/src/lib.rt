@@ -1,4 +1,4 @@
-// What C calls. The relay's state is lent, and all zero bytes are a fresh relay: the main pair of records, the one in force and then
+// What C calls, by way of gorsepetal_c. The relay's state is lent, and all zero bytes are a fresh relay: the main pair of records, the one in force and then
 // the pending one; and the window that frames are fed to.
 #![tactic(auto)]
 
@@ -68,8 +68,7 @@ fn in_force(state: &[u8]) -> Answer
 }
 
 // A first entry: it becomes pending if it is good.
-#[unsafe(no_mangle)]
-pub extern "C" fn gorsepetal_propose(state: &mut [u8], entry: &[u8]) -> u64
+pub fn gorsepetal_propose(state: &mut [u8], entry: &[u8]) -> u64
     ensures { Proposed state.old entry.now result state.new × Unchanged entry.entry.now entry.exit.now }
 {
     if state.len() != STATE_LENGTH {
@@ -79,8 +78,7 @@ pub extern "C" fn gorsepetal_propose(state: &mut [u8], entry: &[u8]) -> u64
 }
 
 // A second entry: the pending record comes into force if this one is the same 32 bytes, and the window is empty then.
-#[unsafe(no_mangle)]
-pub extern "C" fn gorsepetal_confirm(state: &mut [u8], entry: &[u8]) -> u64
+pub fn gorsepetal_confirm(state: &mut [u8], entry: &[u8]) -> u64
     ensures { Confirmed state.old entry.now result state.new × Unchanged entry.entry.now entry.exit.now }
 {
     if state.len() != STATE_LENGTH {
@@ -96,8 +94,7 @@ pub extern "C" fn gorsepetal_confirm(state: &mut [u8], entry: &[u8]) -> u64
 }
 
 // The record in force, at the front of a lent buffer.
-#[unsafe(no_mangle)]
-pub extern "C" fn gorsepetal_read_back(state: &[u8], out: &mut [u8]) -> u64
+pub fn gorsepetal_read_back(state: &[u8], out: &mut [u8]) -> u64
     ensures { ReadBack state.now out.old result out.new × Unchanged state.entry.now state.exit.now }
 {
     if state.len() != STATE_LENGTH {
@@ -143,8 +140,7 @@ pub fn decide(state: &[u8], window: &[i16], out: &mut [u8]) -> Answer
 }
 
 // The same on a window of big-endian bytes.
-#[unsafe(no_mangle)]
-pub extern "C" fn gorsepetal_decide(state: &[u8], samples: &[u8], out: &mut [u8]) -> u64
+pub fn gorsepetal_decide(state: &[u8], samples: &[u8], out: &mut [u8]) -> u64
     ensures { Decided state.now samples.now out.old result out.new × Unchanged state.entry.now state.exit.now × Unchanged samples.entry.now samples.exit.now }
 {
     let n = samples::count(samples);
@@ -154,8 +150,7 @@ pub extern "C" fn gorsepetal_decide(state: &[u8], samples: &[u8], out: &mut [u8]
 }
 
 // One frame of big-endian bytes: it is kept in the window, and the newest 16 frames are decided on.
-#[unsafe(no_mangle)]
-pub extern "C" fn gorsepetal_feed(state: &mut [u8], frame: &[u8], out: &mut [u8]) -> u64
+pub fn gorsepetal_feed(state: &mut [u8], frame: &[u8], out: &mut [u8]) -> u64
     ensures { Fed state.old frame.now out.old result state.new out.new × Unchanged frame.entry.now frame.exit.now }
 {
     if state.len() != STATE_LENGTH {

@@ -1,0 +1,2 @@
+-- What the exports promise.
+pub mod Contracts
