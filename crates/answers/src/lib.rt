@@ -1,6 +1,7 @@
 // The numbers given back (document 01, "Numbers given back"; 9 and 10 are of document 02, CR 1, and 11 to 13 of CR 5): each answer by name,
 // and the one number that C gets.
 #![tactic(auto)]
+
 ghost use Rattle.std.specs.Prelude.{◌≡◌, ◌<◌};
 ghost use Rattle.answers.specs.Answers.{number, place, given_back, number_in, place_in, is_done};
 

@@ -1,5 +1,6 @@
 // The check of a settings record: the rules of the table, specs/Table.antt of `settings`, one after the other.
 #![tactic(auto)]
+
 ghost use Rattle.std.specs.Prelude.{◌≡◌, ◌+◌, ◌*◌, ◌<◌, length};
 ghost use Rattle.settings.specs.Record.{record_length};
 ghost use Rattle.settings.specs.Table.{Unsigned, Signed, Squares, Below, OffOrFrom, Byte, differential_rows, distance_rows, angle_rows, direction_rows, tail_rows};

@@ -1,5 +1,6 @@
 // The decision on a window: what is found in it by the settings record in force, and what decide answers.
 #![tactic(auto)]
+
 ghost use Rattle.std.specs.Prelude.{◌≡◌, ◌≤◌, length};
 ghost use Rattle.plane.specs.Sizes.{AllInside, phasor_size};
 ghost use Rattle.samples.specs.Window.{window_length, first_missing};

@@ -1,6 +1,7 @@
 // Sequence quantities, and the direction of a fault, source document 002's negative-sequence element. Only end 1 is used. Here v2 is 3V2 and
 // i2 is 3I2.
 #![tactic(auto)]
+
 ghost use Rattle.std.specs.Prelude.{◌≡◌};
 ghost use Rattle.whole.specs.Sizes.{Within};
 ghost use Rattle.plane.specs.Sizes.{Inside};

@@ -1,6 +1,7 @@
 // The two-entry rule (document 01, "Settings record"): nothing comes into force that was not said twice.
 // It is stated over where the pair of records lies in a lent state, and over the verdict on a record.
 #![tactic(auto)]
+
 ghost use Rattle.std.specs.Prelude.{◌≡◌, ◌+◌, ◌≤◌, length};
 ghost use Rattle.entry.specs.Pair.{record_length, pair_length, nothing};
 ghost use Rattle.entry.specs.Entry.{Proposed, Confirmed};

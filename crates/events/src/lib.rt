@@ -1,5 +1,6 @@
 // The reader of event files (document 02, CR 5), in a lent slice: open, wanted, read up to where a frame is fed, and end.
 #![tactic(auto)]
+
 ghost use Rattle.std.specs.Prelude.{◌≡◌, true, ◌+◌, ◌*◌, ◌<◌, ◌≤◌, length, drop};
 ghost use Rattle.records.specs.Record.{record_length};
 ghost use Rattle.files.specs.Reader.{refusal};

@@ -1,5 +1,6 @@
 // A frame fed to a relay whose record in force is good (document 02, CR 1): it is kept, and the newest 16 frames are decided on.
 #![tactic(auto)]
+
 ghost use Rattle.std.specs.Prelude.{◌≡◌, ◌+◌, ◌*◌, ◌≤◌, length};
 ghost use Rattle.samples.specs.Window.{frames, numbers_of};
 ghost use Rattle.settings.specs.Record.{record_length};

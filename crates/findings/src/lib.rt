@@ -1,5 +1,6 @@
 // What is found in a window: the trip rule on it, and the 32 bytes of the decision record that tell it.
 #![tactic(auto)]
+
 ghost use Rattle.std.specs.Prelude.{◌≡◌, ◌+◌, ◌<◌, ◌≤◌, ◌^◌, ◌∷◌, replicate};
 ghost use Rattle.lent.specs.Lent.{over};
 ghost use Rattle.findings.specs.DecisionRecord.{balanced_fault, trip, word, decision_bytes};

@@ -1,5 +1,6 @@
 // The phasors of a window: the samples of a channel against the cosine table, the voltages, and the grid of currents, phase by end.
 #![tactic(auto)]
+
 ghost use Rattle.std.specs.Prelude.{◌≡◌, ◌*◌, ◌<◌, ◌≤◌, ◌^◌, length};
 ghost use Rattle.plane.specs.Sizes.{Inside, AllInside, phasor_size};
 ghost use Rattle.samples.specs.Window.{window_length};

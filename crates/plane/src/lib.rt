@@ -1,5 +1,6 @@
 // Complex numbers with whole parts: phasors, impedances and the turns between the phases, and what document 01 does with two of them.
 #![tactic(auto)]
+
 ghost use Rattle.std.specs.Prelude.{◌≡◌, ◌*◌, ◌^◌, pos, nat_abs, ◌<ℤ◌};
 ghost use Rattle.whole.specs.Sizes.{Within};
 ghost use Rattle.plane.specs.Plane.{plus, minus, times, scaled, rounded, dot, cross, squared, squared_magnitude, minus_j};

@@ -1,6 +1,7 @@
 // The quadrilateral ground loops, document 02, CR 7 (source document 002, "Creating Quadrilateral Ground Distance Characteristics"): the top
 // by the reactance, the sides by the resistance, the bottom by the direction. Only end 1 is used.
 #![tactic(auto)]
+
 ghost use Rattle.std.specs.Prelude.{◌≡◌, ◌≤◌, ◌<◌, pos, nat_abs};
 ghost use Rattle.whole.specs.Sizes.{Within};
 ghost use Rattle.plane.specs.Plane.{cross};

@@ -1,5 +1,6 @@
 // A window of samples: its numbers out of big-endian bytes, and its first missing one.
 #![tactic(auto)]
+
 ghost use Rattle.std.specs.Prelude.{◌≡◌, true, ◌+◌, ◌*◌, ◌/◌, ◌%◌, ◌≤◌, length, take};
 ghost use Rattle.whole.specs.TwosComplement.{signed, unsigned};
 ghost use Rattle.samples.specs.Window.{channels, window_length, numbers_of, first_missing};

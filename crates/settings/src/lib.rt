@@ -1,5 +1,6 @@
 // The settings record of document 01: its fields. The table of its rules is specs/Table.antt; `checking` goes through it.
 #![tactic(auto)]
+
 ghost use Rattle.std.specs.Prelude.{◌≡◌, ◌<◌, get_or};
 ghost use Rattle.settings.specs.Record.{field_at, signed_at};
 
