@@ -19,7 +19,6 @@ use Rattle.stream.proofs.Storing.{none_stored}
 use Rattle.entry.specs.Pair.{Pair}
 use Rattle.entry.specs.Entry as entry
 use Rattle.entry.proofs.Done.{proposed_sized, confirmed_sized}
-use Rattle.decision.specs.Decide.{written}
 use Rattle.feed.specs.Feed.{numbers_of_frame, with_frame, with_kept}
 use Rattle.gorsepetal.specs.State.{state_length, window_offset, settings_of, with_settings, window_of, emptied}
 use Rattle.gorsepetal.specs.Calls.{verdict, standing, confirmed_pair, read_back_answer, read_back_out, decide_answer, decide_out, fits_bytes, feed_keeps, Confirmed}

@@ -21,7 +21,7 @@ use Rattle.quadrilateral.specs.Quadrilateral.{quadrilaterals_of}
 use Rattle.quadrilateral.proofs.Laws.{quadrilateral_rule, no_residual, larger_resistive_reach, fault_equation}
 use Rattle.differential.specs.Differential.{operating_bits}
 use Rattle.findings.specs.declared.Findings.{Findings}
-use Rattle.findings.specs.DecisionRecord.{any, balanced_fault, decision_bytes}
+use Rattle.findings.specs.DecisionRecord.{balanced_fault, decision_bytes}
 use Rattle.decision.specs.Decision.{currents_of_end1, findings}
 use Rattle.decision_claims.specs.Bits.{is_set, AnyOf}
 use Rattle.decision_claims.specs.Alike.{SameBut, record_with}

@@ -16,7 +16,7 @@ use Rattle.gorsepetal.proofs.gorsepetal_read_back.Reads as read_back
 use Rattle.gorsepetal.proofs.gorsepetal_decide.Reads as decide
 use Rattle.gorsepetal.proofs.gorsepetal_feed.Reads as feed
 use Rattle.gorsepetal.proofs.decide.Reads as decide_numbers
-use Rattle.gorsepetal.proofs.window_bytes.Reads as window_bytes
+use Rattle.gorsepetal.proofs.window_bytes.Reads as window_bytes_call
 
 -- A contract that asks nothing, and promises a claim and no more
 pub record Promises (asked promised claim : Type 0) : Type 0 where
@@ -27,7 +27,7 @@ pub record Promises (asked promised claim : Type 0) : Type 0 where
 pub the_claim : {claim : Type 0} → Promises (Unit {0}) claim claim
 the_claim = record { asks_nothing = tt; promise = λ p. p; no_more = λ p. p }
 
--- ---- what C calls: of the lent slices at the call and after it, and of the number given back
+-- ---- what C calls, by way of `gorsepetal_c`: of the lent slices at the call and after it, and of the number given back
 
 abbrev pub ProposeContract : Type 0
 ProposeContract =
@@ -82,7 +82,7 @@ decide_numbers_contract κs s s' w w' out out' a = the_claim
 abbrev pub WindowBytesContract : Type 0
 WindowBytesContract =
     (κs : Lfts 1) (s s' : Bor (List ℕ)) (n : ℕ)
-    → Promises (window_bytes.Pre κs (s, tt)) (window_bytes.Post κs (s, tt) n (s', tt)) ((n ≡ window_bytes s.now) × (n ≤ 2 * window_length 6) × Unchanged s.now s'.now)
+    → Promises (window_bytes_call.Pre κs (s, tt)) (window_bytes_call.Post κs (s, tt) n (s', tt)) ((n ≡ window_bytes s.now) × (n ≤ 2 * window_length 6) × Unchanged s.now s'.now)
 
 pub window_bytes_contract : WindowBytesContract
 window_bytes_contract κs s s' n = the_claim

@@ -1,4 +1,5 @@
-// What C calls, by way of gorsepetal_c, to read and to write event files (document 02, CR 5). The reader is a second lent state, beside the relay's own.
+// What C calls, by way of gorsepetal_c, to read and to write event files (document 02, CR 5). The reader is a second lent state, beside the
+// relay's own.
 ghost use Rattle.gorsepetal.specs.Calls.{Unchanged};
 ghost use Rattle.gorsepetal.specs.EventFiles.{EventsOpened, EventsWanted, EventsRead, EventsEnded, EventsWritten};
 

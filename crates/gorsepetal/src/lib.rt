@@ -1,5 +1,5 @@
-// What C calls, by way of gorsepetal_c. The relay's state is lent, and all zero bytes are a fresh relay: the main pair of records, the one in force and then
-// the pending one; and the window that frames are fed to.
+// What C calls, by way of gorsepetal_c. The relay's state is lent, and all zero bytes are a fresh relay: the main pair of records, the one
+// in force and then the pending one; and the window that frames are fed to.
 #![tactic(auto)]
 
 ghost use Rattle.std.specs.Prelude.{◌≡◌, ◌*◌, ◌≤◌, length};
