@@ -72,17 +72,18 @@ def check_layers():
 
 
 def calls():
-    """Each function of the crates with those that its body names before a parenthesis: as one of its own file, of its crate by `crate::` or a
-    module, or of another crate."""
+    """Each function of the crates with those of its crate and of others that its body names before a parenthesis. A method, with a dot before its
+    name where it is called, counts as one only where the crate has a method of that name."""
     found = {}
     for crate in direct():
         for path, text in sources(crate):
-            begins = [*re.finditer(r'^[ ]*(?:pub(?:\([a-z]+\))? )?(?:extern "C" )?fn (\w+)', text, flags=re.MULTILINE)]
+            begins = [*re.finditer(r'^[ ]*(?:pub(?:\([a-z]+\))? )?(?:extern "C" )?fn (\w+)(?:<[^(]*>)?\(\s*(&?(?:mut )?self\b)?', text, flags=re.MULTILINE)]
             for m, end in zip(begins, [*(m.start() for m in begins[1:]), len(text)]):
                 body = text[m.end():end]
                 body = body[body.index('\n{'):] if '\n{' in body else body.partition('{')[2]
-                named = [(path.split('::')[0], name) for path, name in re.findall(r'((?:\b\w+::)*)(?<![\w!])(\w+)\(', body)]
-                found[crate, m[1]] = found.get((crate, m[1]), set()) | {(scope if scope in KNOWN else crate, name) for scope, name in named}
+                named = [(path.split('::')[0], dot + name) for path, dot, name in re.findall(r'((?:\b\w+::)*)(\.?)(?<![\w!])(\w+)\(', body)]
+                function = crate, '.' * bool(m[2]) + m[1]
+                found[function] = found.get(function, set()) | {(scope if scope in KNOWN else crate, name) for scope, name in named}
     return found
 
 
