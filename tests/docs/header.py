@@ -76,19 +76,27 @@ def exported():
     return found
 
 
+def meant_by(crate):
+    """The words that a crate's clauses take from specs/, each with where it is from."""
+    imports = re.compile(r'^ghost use (Rattle\.[\w.]+)\.\{([^}]*)\};', flags=re.MULTILINE)
+    return {word.split()[-1]: (module, word.split()[0]) for _, text in sources(crate) for module, words in imports.findall(text)
+            for word in words.split(',') if word.strip()}
+
+
 def check_exports():
-    """Each export has the parameters, the result and the contract of the library's function of its name, and only calls it. So what is promised of
-    the library is promised of what C calls."""
-    library, exports = functions('gorsepetal'), functions(EXPORTS)
+    """Each export has the parameters, the result and the contract of the library's function of its name, by the same words, and only calls it. So
+    what is promised of the library is promised of what C calls."""
+    library, exports, words, ours_mean = functions('gorsepetal'), functions(EXPORTS), meant_by('gorsepetal'), meant_by(EXPORTS)
     for name in exported():
         ours, theirs = exports.get(name), library.get(name)
         if not ours or not theirs:
             faults.append(f'crates/{EXPORTS}: {name} is no function of crates/gorsepetal, or has a form that this check does not know')
             continue
         given = ', '.join(part.split(':')[0].strip() for part in ours.parameters.split(',') if part.strip())
-        wanted = [('parameters', theirs.parameters), ('result', theirs.result), ('contract', theirs.contract)]
-        faults.extend(f'crates/{EXPORTS}: the {part} of {name} are not those of crates/gorsepetal' for part, text in wanted
-                      if getattr(ours, part) != text or not text)
+        faults.extend(f'crates/{EXPORTS}: {name} has not the {part} that it has in crates/gorsepetal' for part in ('parameters', 'result', 'contract')
+                      if getattr(ours, part) != getattr(theirs, part) or not getattr(ours, part))
+        faults.extend(f'crates/{EXPORTS}: {word} in the contract of {name} is not that of crates/gorsepetal'
+                      for word in re.findall(r'[^\W\d]\w*', ours.contract) if ours_mean.get(word) != words.get(word))
         if not re.fullmatch(rf'gorsepetal::(?:event_files::)?{name}\({re.escape(given)}\)', ours.body):
             faults.append(f'crates/{EXPORTS}: {name} does something else than to call gorsepetal::{name} with what it was handed')
     return len(exports)

@@ -70,13 +70,16 @@ def check_promises():
     faults.extend(f'{CLAIMS}: `{file}` stands in the table, but proves no promise below it' for files in table.values() for file in files
                   if not any(proved(file, name) or theorems().get(name, ())[:1] == (file,) for name, above in table.items() if above == files))
     faults.extend(f'{WITNESS}: no `{name}`' for name in promised if name not in theorems())
+    told = {}
     for function in header.exported():
         call = function.removeprefix('gorsepetal_')
         statement = ''.join(word.capitalize() for word in call.split('_')) + 'Contract'
         if promised.get(f'{call}_contract') != statement:
             faults.append(f'{STATEMENT}: {function}, which C can call, has no contract of type {statement} among the promises')
         claimed = set(re.findall(r"\((\w+) (?:\w+ )*\w+'?\.now\b", header.definition_in(contracts(), statement)))
+        told |= {claim: [*told.get(claim, []), function] for claim in claimed}
         if not any(f'One{claim}' in promised.values() for claim in claimed):
             faults.append(f'{STATEMENT}: no promise that {function} has one result')
+    faults.extend(f'{CONTRACTS}: {" and ".join(names)} have one claim, {claim}' for claim, names in told.items() if len(names) > 1)
     faults.extend(f'{path}: no promise of {STATEMENT} is `{name}`' for path, name in unused(promised))
     return len(promised)
