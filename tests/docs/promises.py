@@ -9,6 +9,7 @@ from witness import WITNESS, theorems
 
 STATEMENT = Path('crates/promises/specs/Promises.antt')
 CONTRACTS = Path('crates/gorsepetal/proofs')
+OF_EXPORTS = Path('crates') / header.EXPORTS / 'proofs'
 CLAIMS = Path('docs/CLAIMS.md')
 
 
@@ -28,9 +29,14 @@ def named(page):
     return found
 
 
-def contracts():
+def contracts(folder=CONTRACTS):
     """What says that a function's contract is its claim: all of it."""
-    return ''.join(path.read_text(encoding='utf-8') for path in sorted((ROOT / CONTRACTS).glob('*Contracts.antt')))
+    return ''.join(path.read_text(encoding='utf-8') for path in sorted((ROOT / folder).glob('*Contracts.antt')))
+
+
+def claims_of(text, statement):
+    """The claims that a function's contract is said to be, of lent slices: one."""
+    return set(re.findall(r"\((\w+) (?:\w+ )*\w+'?\.now\b", header.definition_in(text, statement)))
 
 
 # What is stated in these crates as a part of promises, and is none itself.
@@ -76,7 +82,9 @@ def check_promises():
         statement = ''.join(word.capitalize() for word in call.split('_')) + 'Contract'
         if promised.get(f'{call}_contract') != statement:
             faults.append(f'{STATEMENT}: {function}, which C can call, has no contract of type {statement} among the promises')
-        claimed = set(re.findall(r"\((\w+) (?:\w+ )*\w+'?\.now\b", header.definition_in(contracts(), statement)))
+        claimed = claims_of(contracts(), statement)
+        if claims_of(contracts(OF_EXPORTS), statement) != claimed or f'\npub {call}_contract : {statement}\n' not in contracts(OF_EXPORTS):
+            faults.append(f'{OF_EXPORTS}: no theorem {call}_contract says that the contract of the export {function} is {sorted(claimed)}')
         told |= {claim: [*told.get(claim, []), function] for claim in claimed}
         if not any(f'One{claim}' in promised.values() for claim in claimed):
             faults.append(f'{STATEMENT}: no promise that {function} has one result')
