@@ -2,6 +2,7 @@
 import re
 from pathlib import Path
 
+from header import EXPORTS
 from tree import ROOT, blank, faults, read, sources
 
 CRATES = Path('crates.txt')
@@ -64,6 +65,8 @@ KNOWN = set(direct()).union(*direct().values())
 
 
 def check_layers():
+    if archives() != [EXPORTS]:
+        faults.append(f'{CRATES}: the static library is {EXPORTS} alone, but it has {archives()}')
     for name, needed in direct().items():
         uses = used(name)
         faults.extend(f'{CRATES}: {name} names {other}, which it does not use' for other in needed if other not in uses)
