@@ -6,6 +6,7 @@
 #   sh build.sh ready                  the same, but only if that file is missing or older than the crates
 #   sh build.sh window                 prove the window program and write build/window
 #   sh build.sh window_ready           the same, but only if that file is missing or older than the crates
+#   sh build.sh crates                 prove every crate, and keep what each check says in build/check/NAME.log
 #   sh build.sh header                 compile the header alone, as C99 and as C++
 #   sh build.sh alone                  link the archive with memcpy and memset alone: it must need no other symbol
 #   sh build.sh object SOURCE NAME O3  compile SOURCE to build/NAME.o, at the level named (here -O3) and with the flags that follow
@@ -13,39 +14,51 @@
 #   sh build.sh run NAME               run build/NAME with the words that follow; it reads the standard input of this call
 #   sh build.sh words NAME             print the command by which run does so, a word a line, for a caller that runs it many times
 #
-# GORSEPETAL_ARCHIVE names an archive to use in place of build/libgorsepetal.a. The archive and the window program are for x86-64, so
-# C is compiled for x86-64 everywhere. On Arm the kit's emulator runs it all.
+# GORSEPETAL_ARCHIVE names an archive to use in place of build/libgorsepetal.a. The archive, the window program and the kit are for x86-64.
 set -eu
 cd "$(dirname "$0")"
 
 fail() { echo "build.sh: $*" >&2; exit 2; }
 
 command -v rt >/dev/null || fail "rt is not on the PATH: install the kit that README.md names"
-kit=$(dirname "$(dirname "$(rt doc)")")
-machine=$(uname -m)
-bin=$kit/on/$machine/toolchain/bin
+kit=$(dirname "$(rt doc)")
+bin=$kit/toolchain/bin
 lib=$kit/toolchain/lib
-[ -x "$bin/clang" ] || fail "the kit has no clang for $machine"
+[ -x "$bin/clang" ] || fail "the kit has no clang"
 built=build/libgorsepetal.a
 archive=${GORSEPETAL_ARCHIVE:-$built}
-mkdir -p build
+mkdir -p build/check
 
-# rt staticlib proves what the library stands on one crate after another; rt check, as many at a time as there are processors.
+# The proved work of a crate stays in its out/, so what was proved before and has not changed is not proved again.
 archive() {
-  echo "proving crates/gorsepetal and writing $built: some minutes from nothing" >&2
-  below=$(sed -n 's/^gorsepetal://p' crates.txt)
-  { rt check $below && rt staticlib gorsepetal; } >build/gorsepetal.log 2>&1 || { cat build/gorsepetal.log >&2; fail "crates/gorsepetal was not proved"; }
-  cp target/staticlib/libgorsepetal.a "$built"
+  echo "proving crates/gorsepetal_c and what it stands on, and writing $built: some minutes from nothing" >&2
+  (cd crates/gorsepetal_c && rt lib) >build/gorsepetal.log 2>&1 || { cat build/gorsepetal.log >&2; fail "crates/gorsepetal_c was not proved"; }
+  cp crates/gorsepetal_c/out/libgorsepetal_c.a "$built"
 }
 
+# rt run also runs the program: on the crate's own input, of which it must print what is stored beside it.
 window() {
-  echo "proving crates/window and writing build/window: some minutes from nothing" >&2
-  rt check window >build/window.log 2>&1 || { cat build/window.log >&2; fail "crates/window was not proved, or printed something else"; }
-  cp target/bin/window build/window
+  echo "proving crates/window and what it stands on, and writing build/window: some minutes from nothing" >&2
+  (cd crates/window && rt run <stdin) >build/window.said 2>build/window.log || { cat build/window.log >&2; fail "crates/window was not proved, or did not end well"; }
+  cmp build/window.said crates/window/stdout >&2 || fail "the window program printed something else than crates/window/stdout"
+  cp crates/window/out/window build/window
 }
 
-# Whether a file that is built from the crates is missing, or older than they are.
-stale() { [ ! -f "$1" ] || [ -n "$(find crates.txt crates -newer "$1")" ]; }
+# Every crate from crates.txt, those first that others stand on: rt all check proves as many side by side as there is room for. Then each
+# says how it was proved and what it assumes.
+crates() {
+  rt all check >build/check.log 2>&1 || { cat build/check.log >&2; fail "not every crate is proved"; }
+  rm -f build/check/*.log
+  for name in $(sed -n 's/^\([a-z][a-z0-9_]*\)[ :].*/\1/p' crates.txt); do
+    (cd "crates/$name" && rt check) >build/check/said 2>&1 || { cat build/check/said >&2; fail "crates/$name was not proved"; }
+    mv build/check/said "build/check/$name.log"
+  done
+}
+
+# Whether a file that is built from the crates is missing, or older than they are. What checks keep in out/ is no part of a crate.
+stale() {
+  [ ! -f "$1" ] || [ -n "$(find crates.txt crates -path 'crates/*/out' -prune -o \( -type f -o -path 'crates/*/*' \) -newer "$1" -print)" ]
+}
 
 window_ready() { if stale build/window; then window; fi; }
 
@@ -90,11 +103,10 @@ program() {
     "$lib/libc.so.6" "$lib/libc_nonshared.a" "$lib/libgcc.a" "$lib/crtendS.o" "$lib/crtn.o"
 }
 
-# The command has the kit's own loader and C library, so that nothing of the machine's is needed. On Arm the kit's emulator comes first.
+# The command has the kit's own loader and C library, so that nothing of the machine's is needed.
 words() {
   name=$1
   shift
-  if [ "$machine" != x86_64 ]; then echo "$bin/qemu-x86_64"; fi
   printf '%s\n' "$lib/ld-linux-x86-64.so.2" --library-path "$lib" "$PWD/build/$name" "$@"
 }
 
@@ -108,10 +120,10 @@ END
 }
 
 case "${1:-}" in
-  archive | ready | window | window_ready | header | alone) [ $# -eq 1 ] || fail "$1 takes no further word" ;;
+  archive | ready | window | window_ready | crates | header | alone) [ $# -eq 1 ] || fail "$1 takes no further word" ;;
   object) [ $# -ge 4 ] || fail "object takes SOURCE, NAME and a level, and flags" ;;
   program) [ $# -ge 3 ] || fail "program takes SOURCE and NAME, and objects" ;;
   run | words) [ $# -ge 2 ] || fail "$1 takes NAME, and words for the program" ;;
-  *) fail "one of archive, ready, window, window_ready, header, alone, object, program, run, words is wanted" ;;
+  *) fail "one of archive, ready, window, window_ready, crates, header, alone, object, program, run, words is wanted" ;;
 esac
 "$@"

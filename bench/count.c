@@ -1,7 +1,7 @@
 /*
 ** Counts the instructions that a function executes, by the processor's trap flag: while it is set, each instruction raises a signal, whose
 ** handler sees where the program stands. The count is the same in every run; each turn of a repeated string instruction is one. It needs
-** Linux on x86-64, or an emulator of it that knows the flag, as qemu does. Nothing is timed.
+** Linux on x86-64. Nothing is timed.
 */
 #include <stdio.h>
 #include <stdlib.h>

@@ -1,13 +1,14 @@
 #!/usr/bin/env python3
 """Holds the header and the documents to what is in the tree.
 
-- include/gorsepetal.h declares the exported functions of crates/gorsepetal, and no others; its constants are those of the crates and of
-  their definitions, and no others; its version is the newest of docs/CHANGES.md. Its manual names nothing of the library that it does not
-  declare. In it the tables of numbers, of fields, of the state, of the window, of a decision and of the loops, each call's list of checks,
-  what is said of feed and the formulas of the rules have the source's figures and order, the limits those of the transform, the worked
-  record follows from its own formulas, and the worked decision, the tests at the panel and what is said of balanced faults, of the
-  quadrilateral ground loops and of the slope at which a phase changes from the independent program. The bytes of an event file's record and
-  of its reader are the source's; what ends a reading, and what is noticed of a file and what is not, the independent program shows.
+- include/gorsepetal.h declares the exported functions of crates/gorsepetal_c, and no others, and each of these only calls the function of
+  crates/gorsepetal that has its name and its contract; its constants are those of the crates and of their definitions, and no others; its
+  version is the newest of docs/CHANGES.md. Its manual names nothing of the library that it does not declare. In it the tables of numbers,
+  of fields, of the state, of the window, of a decision and of the loops, each call's list of checks, what is said of feed and the formulas
+  of the rules have the source's figures and order, the limits those of the transform, the worked record follows from its own formulas, and
+  the worked decision, the tests at the panel and what is said of balanced faults, of the quadrilateral ground loops and of the slope at
+  which a phase changes from the independent program. The bytes of an event file's record and of its reader are the source's; what ends a
+  reading, and what is noticed of a file and what is not, the independent program shows.
 - What docs/RULES.md and the manual say that an answer leaves of the state, of a reader and of the lent room is what the independent program
   leaves.
 - In README.md, docs/ and tests/independent/README.md each path in backticks is there (`*` stands for any name), and each link leads to a
@@ -56,6 +57,7 @@ from tree import faults  # noqa: E402
 def main():
     counts = {
         'functions': header.check_functions(),
+        'exports': header.check_exports(),
         'constants': header.check_constants(),
         'macros': header.check_macros(),
         'lines of the header': manual.check_columns(),

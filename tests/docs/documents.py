@@ -3,7 +3,8 @@
 A page says in one of two forms where its names are declared:
 - `name` in `path`, or `a`, `b` in `path`;
 - a paragraph that begins with "Files:" and lists files. Up to the next such paragraph or the next heading of level 1 or 2, each word in
-  backticks that looks like a name is declared in one of these files; or it is a must-fail edit, a crate, or a symbol that C sees.
+  backticks that looks like a name is declared in one of these files; or it is a promise, and its theorem is declared there; or it is a
+  must-fail edit, a crate, or a symbol that C sees.
 """
 import re
 from collections import Counter
@@ -13,6 +14,7 @@ from pathlib import Path
 import header
 import layers
 from tree import ROOT, blank, fault, faults, read
+from witness import theorems
 
 README = Path('README.md')
 WRONG_RELAYS = Path('docs/WRONG-RELAYS.md')
@@ -154,16 +156,22 @@ def known():
     return {*edits(), *layers.direct(), *symbols, 'memcpy', 'memset'}
 
 
+def has(file, name):
+    """Whether a file declares a name, or the theorem of the promise that has it."""
+    path, theorem = theorems().get(name, (None, ''))
+    return declares(file, name) or path == file and declares(file, theorem)
+
+
 def check_list(page, text, paths, names):
     """Each name in a list's range is declared in one of its files, and each file has one of them."""
     files = {m: Path(m.group(1)) for m in paths if (ROOT / m.group(1)).is_file()}
     for m in paths:
         if m not in files:
             fault(page, text, m.start(), f'`{m.group(1)}` is no file')
-        elif not any(declares(files[m], name.group(1)) for name in names):
+        elif not any(has(files[m], name.group(1)) for name in names):
             fault(page, text, m.start(), f'`{m.group(1)}` is listed, but no name below is declared in it')
     for m in names:
-        if m.group(1) not in known() and not any(declares(file, m.group(1)) for file in files.values()):
+        if m.group(1) not in known() and not any(has(file, m.group(1)) for file in files.values()):
             fault(page, text, m.start(), f'`{m.group(1)}` is declared in none of the files that are listed above it')
     return len(names)
 

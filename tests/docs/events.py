@@ -38,9 +38,9 @@ def listed(*numbers):
 def parts_of_record(ends):
     """Where each part of a record lies, by the definitions: the number, the time, the voltages, each end's currents, the status channels."""
     at = [re.search(pattern, header.definition(RECORD, name)) for name, pattern in
-          (('numberIn', r'wordAt g (\d+)'), ('timeIn', r'wordAt g (\d+)'), ('frameIn', r'drop (\d+) g'))]
+          (('number_in', r'word_at g (\d+)'), ('time_in', r'word_at g (\d+)'), ('frame_in', r'drop (\d+) g'))]
     if not all(at):
-        faults.append(f'{RECORD}: `numberIn`, `timeIn` or `frameIn` has a form that this check does not know')
+        faults.append(f'{RECORD}: `number_in`, `time_in` or `frame_in` has a form that this check does not know')
         return []
     number, time, first = (int(m[1]) for m in at)
     blocks = [(first + 6 * block, first + 6 * block + 5) for block in range(channels(ends) // 3)]
@@ -131,7 +131,7 @@ def check_answers():
 def check_numbers():
     """Where the section names answers, or the last number, they are those of the source."""
     inside, other, bad, length, kept = numbers('INSIDE_RECORD', 'OTHER_NUMBER', 'BAD_FILE', 'OTHER_FRAME_LENGTH', 'TOO_FEW_FRAMES')
-    last, *_ = header.definition(WRITER, 'lastNumber').split() or ['']
+    last, *_ = header.definition(WRITER, 'last_number').split() or ['']
     feed = [number for number in header.answers()['feed'] if number][1:]
     *_, count, _, size = header.state_offsets()
     if events.open_file(bytes(events.READER), WIDE, 0)[1].number != bad:
@@ -159,7 +159,7 @@ def check_comments():
     inside, other, bad = numbers('INSIDE_RECORD', 'OTHER_NUMBER', 'BAD_FILE')
     at, frames, room = header.constants('events'), header.constants('samples')['FRAMES'], header.constants('decision')['LENGTH']
     hand, held, ended, frame = (at.get(name) for name in ('HAND', 'HELD', 'ENDED', 'FRAME'))
-    last, *_ = header.definition(WRITER, 'lastNumber').split() or ['']
+    last, *_ = header.definition(WRITER, 'last_number').split() or ['']
     never = f'the reading has ended with {bad}: the reader was not opened, or open answered {bad}'
     ends = f'how many ends the file has, {FEW} to {MANY}'
     return sum(say(call, words) for call, words in {

@@ -3,6 +3,7 @@ import math
 import re
 from functools import cache
 from pathlib import Path
+from typing import NamedTuple
 
 from tree import ROOT, blank, fault, faults, read, sources
 
@@ -40,19 +41,65 @@ def c_parameter(parameter):
     return f'{C_TYPES[kind]} {name}'
 
 
+EXPORTS = 'gorsepetal_c'  # the static library: what C can call, over the library crates/gorsepetal
+
+
+class Function(NamedTuple):
+    """A function of the source: its parameters, what it gives back, its contract and its body."""
+    parameters: str
+    result: str
+    contract: str
+    body: str
+
+
+FUNCTION = re.compile(r'\bfn\s+(\w+)\s*\(([^)]*)\)\s*->\s*(\w+)(?: \{|(.*?)\n\{)\n(.*?)\n\}', flags=re.DOTALL)
+
+
+def functions(crate):
+    """Each function of a crate that others can call, by name. As rt fmt lays it out, its clauses stand before a brace that begins a line."""
+    return {m[1]: Function(*(' '.join((part or '').split()).removesuffix(',') for part in m.groups()[1:]))
+            for _, text in sources(crate) for m in FUNCTION.finditer(text)}
+
+
 def exported():
-    """Each function that crates/gorsepetal exports, as C declares it."""
+    """Each function that crates/gorsepetal_c exports, as C declares it."""
     found = {}
-    for path, text in sources('gorsepetal'):
-        for m in re.finditer(r'\bextern\s+"C"\s+fn\b', text):
-            whole = re.compile(r'#\[no_mangle\]\s*pub\s+extern\s+"C"\s+fn\s+(\w+)\s*\(([^)]*)\)\s*->\s*(\w+)')
+    for path, text in sources(EXPORTS):
+        for m in re.finditer(r'\bfn\b', text):
+            whole = re.compile(r'#\[unsafe\(no_mangle\)\]\s*pub\s+extern\s+"C"\s+fn\s+(\w+)\s*\(([^)]*)\)\s*->\s*(\w+)')
             f = next((f for f in whole.finditer(text) if f.start() < m.start() < f.end()), None)
             try:
                 parameters = [c_parameter(p) for p in f.group(2).split(',') if p.strip()]
                 found[f.group(1)] = f'{C_TYPES[f.group(3)]} {f.group(1)}({", ".join(parameters) or "void"})'
             except (AttributeError, KeyError, ValueError):
-                fault(path, text, m.start(), 'wanted #[no_mangle] pub extern "C" fn NAME(numbers and lent slices) -> a number')
+                fault(path, text, m.start(), 'wanted #[unsafe(no_mangle)] pub extern "C" fn NAME(numbers and lent slices) -> a number')
     return found
+
+
+def meant_by(crate):
+    """The words that a crate's clauses take from specs/, each with where it is from."""
+    imports = re.compile(r'^ghost use (Rattle\.[\w.]+)\.\{([^}]*)\};', flags=re.MULTILINE)
+    return {word.split()[-1]: (module, word.split()[0]) for _, text in sources(crate) for module, words in imports.findall(text)
+            for word in words.split(',') if word.strip()}
+
+
+def check_exports():
+    """Each export has the parameters, the result and the contract of the library's function of its name, by the same words, and only calls it. So
+    what is promised of the library is promised of what C calls."""
+    library, exports, words, ours_mean = functions('gorsepetal'), functions(EXPORTS), meant_by('gorsepetal'), meant_by(EXPORTS)
+    for name in exported():
+        ours, theirs = exports.get(name), library.get(name)
+        if not ours or not theirs:
+            faults.append(f'crates/{EXPORTS}: {name} is no function of crates/gorsepetal, or has a form that this check does not know')
+            continue
+        given = ', '.join(part.split(':')[0].strip() for part in ours.parameters.split(',') if part.strip())
+        faults.extend(f'crates/{EXPORTS}: {name} has not the {part} that it has in crates/gorsepetal' for part in ('parameters', 'result', 'contract')
+                      if getattr(ours, part) != getattr(theirs, part) or not getattr(ours, part))
+        faults.extend(f'crates/{EXPORTS}: {word} in the contract of {name} is not that of crates/gorsepetal'
+                      for word in re.findall(r'[^\W\d]\w*', ours.contract) if ours_mean.get(word) != words.get(word))
+        if not re.fullmatch(rf'gorsepetal::(?:event_files::)?{name}\({re.escape(given)}\)', ours.body):
+            faults.append(f'crates/{EXPORTS}: {name} does something else than to call gorsepetal::{name} with what it was handed')
+    return len(exports)
 
 
 def check_functions():
@@ -63,7 +110,7 @@ def check_functions():
         name = name.group(1) if name else ''
         seen.add(name)
         if name not in wanted:
-            fault(HEADER, text, m.start(), f'{squeezed(m.group())} is no function that crates/gorsepetal exports')
+            fault(HEADER, text, m.start(), f'{squeezed(m.group())} is no function that crates/gorsepetal_c exports')
         elif squeezed(m.group()) != squeezed(wanted[name]) + ';':
             fault(HEADER, text, m.start(), f'the source has {wanted[name]};')
     faults.extend(f'{HEADER}: {wanted[name]}; is missing' for name in sorted(set(wanted) - seen))
@@ -86,7 +133,8 @@ def constants(crate, file='lib.rt'):
     `use`, and other crates', as in `entry::RECORD_LENGTH`."""
     text = blank(r'//[^\n]*', read(Path('crates') / crate / 'src' / file))
     written = dict(re.findall(r'\bconst\s+(\w+)\s*:\s*\w+\s*=\s*([^;]+);', text))
-    taken = {name: other for other, name in re.findall(r'^use (\w+)::([A-Z_]+);', text, flags=re.MULTILINE)}
+    used = re.findall(r'^use (\w+)::(?:\{([^}]*)\}|([A-Z_]+));', text, flags=re.MULTILINE)
+    taken = {name: other for other, several, one in used for name in re.findall(r'\b[A-Z_]+\b', several or one)}
 
     def value(word):
         other = re.fullmatch(r'(\w+)::(\w+)', f'{taken[word]}::{word}' if word in taken else word)
@@ -117,55 +165,55 @@ def definition(path, name):
 
 
 def weights(path, name):
-    """The bit of each member in a definition made by `bits (.. (x .ag) ∷ .. ∷ [])`, by the member's name."""
-    return {member.upper(): 2 ** i for i, member in enumerate(re.findall(r'\(\w+ \.(\w+)\)', definition(path, name)))}
+    """The bit of each member in a definition made by `bits (.. x.ag ∷ .. ∷ [])`, by the member's name."""
+    return {member.upper(): 2 ** i for i, member in enumerate(re.findall(r'\b\w+\.(\w+)\)? ∷', definition(path, name)))}
 
 
 def directions():
-    found = re.findall(r'^directionNumber (\w+) = (\d+)$', read(Path('crates/direction/specs/Direction.antt')), flags=re.MULTILINE)
+    found = re.findall(r'^direction_number (\w+) = (\d+)$', read(Path('crates/direction/specs/Direction.antt')), flags=re.MULTILINE)
     return {f'DIRECTION_{name.upper()}': int(value) for name, value in found}
 
 
 def six_loops():
-    """Each loop's name, V, I and Vp, by `sixOf`: E is the k product, and P, aP and a²P are those of document 01."""
+    """Each loop's name, V, I and Vp, by `six_of`: E is the k product, and P, aP and a²P are those of document 01."""
     polarised = {'p': 'P', 'ap': 'aP', 'a²p': 'a²P'}
-    made = r'(\w+) = (ground|phase)Loop ((?:\([vi] \.\w\) ?)+)(?:k )?(\S+);'
+    made = r'(\w+) = (ground|phase)_loop ((?:[vi]\.\w )+)(?:k )?(\S+);'
     found = []
-    for loop, kind, members, p in re.findall(made, definition('crates/distance/specs/Mho.antt', 'sixOf')):
-        v, i = ([quantity.upper() + phase for quantity, phase in re.findall(r'\((\w) \.(\w)\)', members) if quantity == q] for q in 'vi')
+    for loop, kind, members, p in re.findall(made, definition('crates/distance/specs/Mho.antt', 'six_of')):
+        v, i = ([quantity.upper() + phase for quantity, phase in re.findall(r'(\w)\.(\w)', members) if quantity == q] for q in 'vi')
         found.append([loop.upper(), ' - '.join(v), ' - '.join(i) + ' + E' * (kind == 'ground'), '-j ' * (kind == 'phase') + polarised[p]])
     return found
 
 
 # Each part of a decision that has one byte, by the definition of its bytes. What the trip is made of stands there too: the second zone is
 # not among it.
-PARTS = {'trip (f .operating) (f .quadrilaterals) (f .asserting) (f .direction) (f .unbalanced)': 'TRIP',
-         'phaseByte (f .operating) (f .quadrilaterals)': 'PHASES', 'f .asserting': 'LOOPS',
-         'directionNumber (f .direction)': 'DIRECTION', 'f .overreaching': 'SECOND_ZONE',
-         **{f'f .changes .{phase}': f'CHANGE_{phase.upper()}' for phase in 'abc'}}
+PARTS = {'trip f.operating f.quadrilaterals f.asserting f.direction f.unbalanced': 'TRIP',
+         'phase_byte f.operating f.quadrilaterals': 'PHASES', 'f.asserting': 'LOOPS',
+         'direction_number f.direction': 'DIRECTION', 'f.overreaching': 'SECOND_ZONE',
+         **{f'f.changes.{phase}': f'CHANGE_{phase.upper()}' for phase in 'abc'}}
 
 
 def quadrilaterals():
     """The bit of each quadrilateral in the byte of the phases, by its letter: its bit among the three, times what that byte says."""
-    beside = re.fullmatch(r'operating \+ (\d+) \* quadrilaterals', definition(DECISION_RECORD, 'phaseByte'))
+    beside = re.fullmatch(r'operating \+ (\d+) \* quadrilaterals', definition(DECISION_RECORD, 'phase_byte'))
     if not beside:
-        faults.append(f'{DECISION_RECORD}: `phaseByte` has a form that this check does not know')
+        faults.append(f'{DECISION_RECORD}: `phase_byte` has a form that this check does not know')
     return {loop[0]: bit * int(beside[1] if beside else 0) for loop, bit in weights(QUADRILATERAL, 'seeing').items()}
 
 
 def decision_parts():
-    """The offset of each part and its length, by `decisionBytes`: a `word` has four bytes, all else one."""
+    """The offset of each part and its length, by `decision_bytes`: a `word` has four bytes, all else one."""
     at, found = 0, {}
-    for part in re.split(r' (?:∷|\+\+) ', definition(DECISION_RECORD, 'decisionBytes')):
-        word = re.fullmatch(r'word \((magnitude \()?f \.comparisons \.(\w)( \.restraint)?\)+', part)
+    for part in re.split(r' (?:∷|\+\+) ', definition(DECISION_RECORD, 'decision_bytes')):
+        word = re.fullmatch(r'word (?:(\(magnitude )f\.comparisons\.(\w)\)|f\.comparisons\.(\w)\.restraint)', part)
         name = PARTS.get(part)
         if word:
-            name = f'{"DIFFERENTIAL" if word.group(1) else "RESTRAINT"}_{word.group(2).upper()}'
+            name = f'{"DIFFERENTIAL" if word[1] else "RESTRAINT"}_{(word[2] or word[3]).upper()}'
         length = 4 if word else 1
         if name:
             found[f'DECISION_AT_{name}'] = at, length
         else:
-            faults.append(f'decisionBytes has a part that this check does not know: {part}')
+            faults.append(f'decision_bytes has a part that this check does not know: {part}')
         at += length
     return found
 
@@ -177,9 +225,9 @@ def decision_offsets():
 def state_offsets():
     """Where each part of the state begins, the two records and the count and the numbers of the window, and where the last one ends."""
     relay = constants('gorsepetal')
-    numbers = re.search(r'drop \(at \+ (\d+)\) state', definition(STORED, 'windowAt'))
+    numbers = re.search(r'drop \(at \+ (\d+)\) state', definition(STORED, 'window_at'))
     if not numbers:
-        faults.append(f'{STORED}: `windowAt` has a form that this check does not know')
+        faults.append(f'{STORED}: `window_at` has a form that this check does not know')
     return [relay['MAIN'], relay['PENDING'], relay['WINDOW'], relay['WINDOW'] + int(numbers[1] if numbers else 0), relay['STATE_LENGTH']]
 
 
@@ -192,10 +240,10 @@ def channels(ends):
 def record_bytes(ends, status):
     """The bytes of a record of an event file, by the definitions of crates/records: with channels of 16 bits."""
     width = re.search(r'width = (\d+)', definition(RECORD, 'narrow'))
-    groups, length = (definition(RECORD, name).replace('/', '//') for name in ('groups', 'recordLength'))
-    length = re.sub(r'\bsh \.(\w+)', r'\1', length)
+    groups, length = (definition(RECORD, name).replace('/', '//') for name in ('groups', 'record_length'))
+    length = re.sub(r'\bsh\.(\w+)', r'(\1)', length)
     if not width or not re.fullmatch(r'[\w\s()+*/]+', groups + length):
-        faults.append(f'{RECORD}: `narrow`, `groups` or `recordLength` has a form that this check does not know')
+        faults.append(f'{RECORD}: `narrow`, `groups` or `record_length` has a form that this check does not know')
         return 0
     known = {'width': int(width[1]), 'ends': ends, 'status': status, 'channels': channels}
     return eval(length, {**known, 'groups': lambda status: eval(groups, {'status': status})})
@@ -218,7 +266,7 @@ def reader_parts():
 def endings():
     """The numbers that end the reading of an event file, in the order of the definitions, each with whether it has a place."""
     numbered = dict(re.findall(r'^number \(?(\w+)(?: at\))? = (\d+)$', read(ANSWERS), flags=re.MULTILINE))
-    found = re.findall(r'^answerOf (\(?)\w+(?: \w+\))? = answer\.(\w+)', read(READER), flags=re.MULTILINE)
+    found = re.findall(r'^answer_of (\(?)\w+(?: \w+\))? = answer\.(\w+)', read(READER), flags=re.MULTILINE)
     return {int(numbered[name]): bool(placed) for placed, name in found}
 
 
@@ -232,7 +280,7 @@ def rows(name, blocks):
             more = {int(placed[1] if placed else value[1]): bool(placed)}
         elif value[1] == 'n' and other:
             more = {number: has_place for number, has_place in rows(other[-1], blocks).items() if number != constants('answers')['NO_RELAY']}
-        elif value[1] == '(givenBack (answerOf e))':
+        elif value[1] == '(given_back (answer_of e))':
             more = endings()
         else:
             faults.append(f'{name}Row has a row that this check does not know: {value[0]}')
@@ -273,8 +321,8 @@ def wanted_constants():
     """Each constant that the header should have: public ones of the source, and what the definitions say."""
     samples = constants('samples')
     in_force, pending, count, numbers, _ = state_offsets()
-    phases = weights('crates/differential/specs/Differential.antt', 'operatingBits')
-    loops = weights('crates/distance/specs/Mho.antt', 'loopBits')
+    phases = weights('crates/differential/specs/Differential.antt', 'operating_bits')
+    loops = weights('crates/distance/specs/Mho.antt', 'loop_bits')
     return {
         **version(), **public('answers'), **public('gorsepetal'),
         **{f'AT_{name}': value for name, value in public('settings', 'at.rt').items()},

@@ -6,16 +6,12 @@ import sys
 from pathlib import Path
 
 sys.dont_write_bytecode = True
-from layers import crates  # noqa: E402
+from layers import crates, files  # noqa: E402
 from tree import ROOT, faults, read  # noqa: E402
 
 ARCHITECTURE = Path('docs/ARCHITECTURE.md')
 PARTS = ('src', 'specs', 'proofs')
 MOST_IN_A_CRATE, MOST_IN_ALL = 8, 4.5
-
-
-def files(crate, part):
-    return [path for path in (ROOT / 'crates' / crate / part).rglob('*') if path.suffix in ('.rt', '.antt')]
 
 
 def text(path):
@@ -35,7 +31,7 @@ def served(crate, others):
     folder = ROOT / 'crates' / crate / 'proofs'
     for path in files(crate, 'proofs'):
         module = '.'.join(path.relative_to(folder).with_suffix('').parts)
-        if f'Rattle·{crate}.proofs.{module}.' in others:
+        if f'Rattle.{crate}.proofs.{module}.' in others:
             yield path
 
 

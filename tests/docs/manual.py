@@ -164,9 +164,9 @@ def settings_rules():
                 yield from rows(defined[piece])
             elif piece != '[]':
                 piece = re.sub(r'\b(' + '|'.join(limits) + r')\b', lambda m: limits[m[1]], piece)
-                piece = re.sub(r'\(offsetOf (\w+)\)', lambda m: re.match(r'\w+ (\d+)', defined[m[1]])[1], piece)
+                piece = re.sub(r'\(offset_of (\w+)\)', lambda m: re.match(r'\w+ (\d+)', defined[m[1]])[1], piece)
                 yield re.sub(r'\((negated|pos) (\d+)\)', lambda m: '-' * (m[1] == 'negated') + m[2], piece)
-    return list(rows('settingsTable'))
+    return list(rows('settings_table'))
 
 
 def fields():
@@ -257,8 +257,8 @@ def check_decision_table():
     wanted = [(at, at + length - 1) for at, length in decision_parts().values()]
     if found != wanted:
         faults.append(f'{HEADER}: the table of a decision has {found}; the source has {wanted}')
-    phases = weights('crates/differential/specs/Differential.antt', 'operatingBits')
-    loops = weights('crates/distance/specs/Mho.antt', 'loopBits')
+    phases = weights('crates/differential/specs/Differential.antt', 'operating_bits')
+    loops = weights('crates/distance/specs/Mho.antt', 'loop_bits')
     at = decision_offsets()
     second = f'in the second zone, added up as in byte {at.get("DECISION_AT_LOOPS")}; 0 where r2 is 0'
     change = (f'c of phase a, 0 to {largest_slope() - 1}: the phase operates at the slopes 1 to c, and at no other '

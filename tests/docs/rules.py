@@ -83,20 +83,22 @@ def drawn():
 
 @cache
 def definitions():
-    """The text of each definition of the specs by name, to the next empty line; of a name that several files declare, all of them."""
-    found, word = {}, r'(?:abbrev|unfoldable|pub|record|data)'
-    for path in sorted((ROOT / 'crates').glob('*/specs/*.antt')):
+    """The text of each definition of the specs by name, to the next empty line; of a name that several files declare, all of them. A field or a
+    constructor counts only where no definition has its name."""
+    found, inner, word = {}, {}, r'(?:abbrev|unfoldable|pub|record|data)'
+    for path in sorted((ROOT / 'crates').glob('*/specs/**/*.antt')):
         text = re.sub(r'--[^\n]*', '', path.read_text(encoding='utf-8')) + '\n\n'
-        for m in re.finditer(rf'^ *(?:{word} +)*([^\s:={{}}()]+)(?: +[({{][^\n]*[)}}])? +:(?=\s)', text, flags=re.MULTILINE):
-            found[m[1]] = found.get(m[1], '') + text[m.start():text.index('\n\n', m.start())] + '\n'
-    return found
+        for m in re.finditer(rf'^( *)(?:{word} +)*([^\s:={{}}()]+)(?: +[({{][^\n]*[)}}])? +:(?=\s)', text, flags=re.MULTILINE):
+            into = inner if m[1] else found
+            into[m[2]] = into.get(m[2], '') + text[m.start():text.index('\n\n', m.start())] + '\n'
+    return inner | found
 
 
 @cache
 def constants():
     """The definitions that are a number: as a numeral, or as a sum of products of such definitions and of windows' lengths."""
     found = {name: re.search(rf'^{re.escape(name)} = ([\w ()+*]+)$', text, flags=re.MULTILINE) for name, text in definitions().items()}
-    written = {name: re.sub(r'\bwindowLength (\d)', lambda m: f'frames * {header.channels(int(m[1]))}', m[1]) for name, m in found.items() if m}
+    written = {name: re.sub(r'\bwindow_length (\d)', lambda m: f'frames * {header.channels(int(m[1]))}', m[1]) for name, m in found.items() if m}
 
     def value(expression):
         names = {name: value(written[name]) if name in written else None for name in re.findall(r'[^\W\d]\w*', expression)}
@@ -118,7 +120,7 @@ def figures(name, further=1):
 
 
 def lengths():
-    return [constants()['frames'] * header.channels(ends) for ends in range(2, constants()['mostEnds'] + 1)]
+    return [constants()['frames'] * header.channels(ends) for ends in range(2, constants()['most_ends'] + 1)]
 
 
 def worked_out(name):
@@ -126,14 +128,14 @@ def worked_out(name):
     band, longest = constants()['band'], lengths()[-1]
     *_, count, first, end = header.state_offsets()
     return {
-        'windowLength': set(lengths()) | {2 * length for length in lengths()},
-        'Above': {100 * band}, 'NotBelow': {band}, 'oneAndAHalf': figures('sixteen', 0),
-        'numbersOfFrame': {2 * header.channels(ends) for ends in range(2, constants()['mostEnds'] + 1)},
-        'windowAt': {count, first - 1, first, end - 1, longest}, 'none': {longest}, 'emptied': {end - count},
-        'keptAnswer': {constants()['frames'] - 1},
+        'window_length': set(lengths()) | {2 * length for length in lengths()},
+        'Above': {100 * band}, 'NotBelow': {band}, 'one_and_a_half': figures('sixteen', 0),
+        'numbers_of_frame': {2 * header.channels(ends) for ends in range(2, constants()['most_ends'] + 1)},
+        'window_at': {count, first - 1, first, end - 1, longest}, 'none': {longest}, 'emptied': {end - count},
+        'kept_answer': {constants()['frames'] - 1},
         'groups': {header.record_bytes(ends, status) for ends in range(2, 7) for status in (0, 96)},
-        'ChangeMovesThree': {constants()['decisionLength'] - 1}, 'AtAnotherR': {constants()['decisionLength'] - 1},
-        'phaseByte': {*header.quadrilaterals().values()},
+        'ChangeMovesThree': {constants()['decision_length'] - 1}, 'AtAnotherR': {constants()['decision_length'] - 1},
+        'phase_byte': {*header.quadrilaterals().values()},
     }.get(name, set())
 
 
@@ -236,19 +238,19 @@ def limits(rule):
 def check_settings():
     """The table of fields is that of crates/settings: rows, offsets, limits. The rules on the checks name all of its rules."""
     text, wanted = read(manual.TABLE), []
-    names = re.findall(r'\b\w+Row\b', ' '.join(re.findall(r'^\w+Rows = (.*)$', text, flags=re.MULTILINE)))
+    names = re.findall(r'\b\w+_row\b', ' '.join(re.findall(r'^\w+_rows = (.*)$', text, flags=re.MULTILINE)))
     for is_byte, group in groupby(manual.settings_rules(), key=lambda rule: rule.startswith('Byte ')):
         for rule in group:
-            rule = re.sub(r'\(offsetOf (\w+)\)', lambda m: re.search(rf'^{m[1]} = \w+ (\d+)', text, flags=re.MULTILINE)[1], rule)
+            rule = re.sub(r'\(offset_of (\w+)\)', lambda m: re.search(rf'^{m[1]} = \w+ (\d+)', text, flags=re.MULTILINE)[1], rule)
             words = limits(rule)
-            if not is_byte or wanted[-1][3] != 'spareRows':
-                wanted.append(words + ['spareRows' if is_byte else names[len(wanted)]])
+            if not is_byte or wanted[-1][3] != 'spare_rows':
+                wanted.append(words + ['spare_rows' if is_byte else names[len(wanted)]])
             else:
                 wanted[-1][0] = f'{wanted[-1][0].split()[0]} to {words[0]}'
     found = [row[:3] + [row[3].strip('`')] for row in columns('at', 'from', 'to', 'definition')]
     first, *_, last = fields() or [0, 0]
     for rule in rules():
-        if {'checkedBy', 'GoodRecord'} & set(named(rule)):
+        if {'checked_by', 'GoodRecord'} & set(named(rule)):
             missing = [words for words in (f'R{first} to R{last}', *(f'R{n}' for n in later_fields())) if words not in rule.cells['now']]
             for words in missing:
                 fault(PAGE, read(PAGE), rule.at, f'R{rule.number} does not name {words}, of the table of fields')
@@ -293,7 +295,7 @@ def meant(number, place):
     return {
         known['TOO_FEW_FRAMES']: f'fewer than {frames} frames', known['INSIDE_RECORD']: f'inside record {place},',
         known['OTHER_NUMBER']: f'the sample number of record {place} is not {place + 1}',
-        known['NO_RELAY']: f'the state is not {constants()["stateLength"]} bytes, or the reader not {constants().get("readerLength")};',
+        known['NO_RELAY']: f'the state is not {constants()["state_length"]} bytes, or the reader not {constants().get("reader_length")};',
     }.get(number, '')
 
 
@@ -322,7 +324,7 @@ def check_measuring():
     """The lines of the cosines and the sines, the window that is drawn, its lengths and those of a frame, where a converter clips, and what is
     stored and fed in place of what was lost."""
     line = {name: numbers(rest) for name, rest in re.findall(r'^([CS])\[n\](.*)$', drawn(), flags=re.MULTILINE)}
-    entries = re.findall(r'(negℤ \()?pos (\d+)', header.definition(RATE, 'cosines'))
+    entries = re.findall(r'(neg_ℤ \()?pos (\d+)', header.definition(RATE, 'cosines'))
     table = [-int(n) if minus else int(n) for minus, n in entries]
     shift = int(re.search(r'shift = (\d+)', definitions()['sixteen'])[1])
     compare('the line of the cosines', line.get('C', []), table)
@@ -333,10 +335,10 @@ def check_measuring():
     compare('the window that is drawn', shown, [wide, constants()['frames'] * wide])
     frames = [numbers(m) for m in re.findall(r'^frame +(\d.*?)(?:  +[a-z]+)?$', drawn(), flags=re.MULTILINE)]
     compare('the indexes that are drawn', frames, [[f, *range(f * wide, (f + 1) * wide)] for f, *_ in frames])
-    told = [numbers(rule.cells['now'].partition(':')[2]) for rule in rules() if 'windowLength' in named(rule)]
+    told = [numbers(rule.cells['now'].partition(':')[2]) for rule in rules() if ['window_length'] == named(rule) and 'now' in rule.cells]
     compare('the lengths of windows', told, [lengths() + [2 * length for length in lengths()]])
-    told = [numbers(rule.cells['now'].partition('bytes:')[2]) for rule in rules() if 'numbersOfFrame' in named(rule)]
-    compare('the lengths of frames', told, [[2 * header.channels(ends) for ends in range(2, constants()['mostEnds'] + 1)]])
+    told = [numbers(rule.cells['now'].partition('bytes:')[2]) for rule in rules() if 'numbers_of_frame' in named(rule)]
+    compare('the lengths of frames', told, [[2 * header.channels(ends) for ends in range(2, constants()['most_ends'] + 1)]])
     largest, most = -header.constants('samples')['MISSING'] - 1, constants()['frames']
     *_, count, _, end = header.state_offsets()
     for words in (f'must clip at -{largest} and {largest}', f'the stored bytes 0 to {count - 1} hold',
@@ -355,17 +357,17 @@ def check_decision():
     """The bytes of a decision, the bits of phases and loops, the numbers of directions; V, I and Vp of each loop."""
     parts = {at + k: name.split('_')[2] for name, (at, length) in header.decision_parts().items() for k in range(length)}
     wanted, rows = [], columns('bytes', 'content')
-    for name, group in groupby(range(constants()['decisionLength']), key=parts.get):
+    for name, group in groupby(range(constants()['decision_length']), key=parts.get):
         first, *_, last = [*group] * 2
         wanted.append([f'{first} to {last}' if first < last else str(first), CONTENT.get(name)])
     found = [[place, next((word for word in CONTENT.values() if text.startswith(word)), text)] for place, text in rows]
     compare('the decision', found, wanted)
     said = ' '.join(text for _, text in rows)
-    bits = [f'{bit} for {phase.lower()}' for phase, bit in header.weights(DIFFERENTIAL, 'operatingBits').items()]
+    bits = [f'{bit} for {phase.lower()}' for phase, bit in header.weights(DIFFERENTIAL, 'operating_bits').items()]
     beside = 'and quadrilaterals that operate: ' + ', '.join(f'{bit} for {name}' for name, bit in header.quadrilaterals().items())
     directions = [f'{name.removeprefix("DIRECTION_").lower()} {number}' for name, number in header.directions().items()]
     faults.extend(f'{PAGE}: the decision does not say "{words}"' for words in (', '.join(bits), beside, ', '.join(directions)) if words not in said)
-    compare('the bits of the loops', columns('loop', 'bit'), [[loop, str(bit)] for loop, bit in header.weights(MHO, 'loopBits').items()])
+    compare('the bits of the loops', columns('loop', 'bit'), [[loop, str(bit)] for loop, bit in header.weights(MHO, 'loop_bits').items()])
     loops = header.six_loops()
     compare('the loops', columns('loop', 'V', 'I', 'Vp'), loops)
     return len(wanted) + len(loops)
@@ -381,8 +383,8 @@ def check_lines():
 def check_events():
     """Of event files: the lengths of records, the parts of a reader, the record and the reader that are drawn, and figures that no definition
     has alone."""
-    told = [numbers(rule.cells['now'].partition(': ')[2]) for rule in rules() if {'recordLength', 'groups'} <= set(named(rule))]
-    every = range(2, constants()['mostEnds'] + 1)
+    told = [numbers(rule.cells['now'].partition(': ')[2]) for rule in rules() if {'record_length', 'groups'} <= set(named(rule))]
+    every = range(2, constants()['most_ends'] + 1)
     lengths_of = {status: [header.record_bytes(ends, status) for ends in every] for status in (0, 96)}
     compare('the lengths of records', told, [[*lengths_of[0], 96, *lengths_of[96]]])
     parts, reader = sorted(header.reader_parts().values()), header.constants('events')

@@ -243,7 +243,7 @@ def check_version():
     told = re.search(r'^## 5\.0\.0\b.*?(?=^## )', read(VERSIONS), flags=re.DOTALL | re.MULTILINE)
     return has(VERSIONS, ' '.join(told[0].split()) if told else '',
                f'Bytes {CHANGE}, {CHANGE + 1} and {CHANGE + 2} of a decision are c of phases a, b and c, from 0 to {MOST}:',
-               f'bytes 0 to {CHANGE - 1} and {CHANGE + 3} to {rules.constants()["decisionLength"] - 1} of every decision.')
+               f'bytes 0 to {CHANGE - 1} and {CHANGE + 3} to {rules.constants()["decision_length"] - 1} of every decision.')
 
 
 def check_asked():
@@ -256,7 +256,7 @@ def check_asked():
               f'{operates[HEARD]}, at {HEARD}; it would at {c}, not at {c + 1}', f'at {SAID} {operates[SAID]}, at {HEARD} {operates[HEARD]}',
               f'with a pickup above {reached}', 'with nothing out at end 2', f'{c + 1} in some windows']
     rules.compare('what is said of the paper mill', [[*row.values()][-1] for row in rows], wanted)
-    opening, text = next((rule.at for rule in rules.rules() if 'slopeOfChange' in rules.named(rule)), 0), read(rules.PAGE)
+    opening, text = next((rule.at for rule in rules.rules() if 'slope_of_change' in rules.named(rule)), 0), read(rules.PAGE)
     first, *_, last = [rule.number for rule in rules.rules() if opening <= rule.at < text.find('\n## ', opening)] * 2 or [0, 0]
     return len(rows) + check_version() + has(
         rules.PAGE, ' '.join(read(rules.PAGE).split()), f'| the paper mill: {SAID} was meant, {HEARD} was heard, c = {c} |',
@@ -264,4 +264,4 @@ def check_asked():
         f'R{first} to R{last} have the rules.', f'| why is c {MOST}? | nothing flows out again, or next to nothing; at {largest_slope()} no phase operates |',
         f'with K = {largest_slope()}: exactly if byte 0 is 1, or one of bytes {CHANGE} to {CHANGE + 2} is x or more',
         f'| {MOST}, since at {largest_slope()} no phase operates |', f'has zeros in bytes {CHANGE} to {CHANGE + 2}',
-        f'0 to {CHANGE - 1} and {CHANGE + 3} to {rules.constants()["decisionLength"] - 1} are what they were without c')
+        f'0 to {CHANGE - 1} and {CHANGE + 3} to {rules.constants()["decision_length"] - 1} are what they were without c')
