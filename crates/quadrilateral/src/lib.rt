@@ -51,6 +51,7 @@ fn below_top(r: i64, zi: Phasor, v: Phasor, ir: Phasor) -> bool
 }
 
 // Whether a loop lies between its sides, from |n| and |q|.
+#[tactic(auto, unfolding(crate::specs::Quadrilateral::between_sides))]
 fn between_sides(limit: u64, n: u64, q: u64) -> bool
     requires { (limit ≤ most_resistive_reach) × (n ≤ side_size) × (q ≤ side_size) }
     ensures { result ≡ between_sides limit n q }

@@ -8,10 +8,7 @@ use Rattle.checking.proofs.check.Tie as tie
 
 returns : tie.Need-returns
 unfolding settings_table
-returns c =
-    let d = c.before.before.before.before in
-    along_table _ (omega arith)
-    (rw (c.tail_part.ensures, c.before.direction_part-found.ensures, c.before.before.angle_part-found.ensures, c.before.before.before.distance_part-found.ensures, d.differential_part-found.ensures))
+returns c = along_table _ (omega arith) (cc)
 
 pub check_spec : {M : Type 1} → statement M
 check_spec =

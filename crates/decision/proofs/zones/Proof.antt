@@ -1,7 +1,10 @@
 -- `decision::zones` meets its contract: both reaches are in range, and the test is whether the second is 0.
 use mathlib.Core.Path.{◌≡◌, ◌∙◌}
 use borrow.Author.Tests.{ne_eqb}
-use lib.IntN.{pos}
+use Prim.Native.Nat.{ℕ}
+use lib.IntN.{ℤ, pos}
+use mir.Syntax.{w64}
+use mir.Val.{of_z}
 use Rattle.whole.proofs.Machine.{back}
 use Rattle.whole.proofs.Size.{along}
 use Rattle.settings.specs.Fields.{second_reach}
@@ -34,18 +37,21 @@ module _ (c : tie.After-zone_bits-seen) where
       let e = simp (back r.result r.type_inv, back r2.result r2.type_inv) at c.zone_bits-seen.ensures in
       (e.0 ∙ (λ k. loop_bits z (r.ensures k) start.args.l), e.1 ∙ (λ k. loop_bits z (r2.ensures k) start.args.l))
 
-off : tie.Need-returns-then-second_reach-eq0
-off c =
-    let b = c.before in
-    let zero : second_reach (start b).args.s.now ≡ 0 = rw b.before.second_reach-second_reach.ensures at c.if-second_reach-eq0.true in
-    ((both b).0, rw zero)
+-- what the test on the second reach found
+module _ {r : ℤ} {n : ℕ} (e : r ≡ pos n) where
+  is_zero : of_z w64 r ≡ 0 → n ≡ 0
+  is_zero t = rw e at t
 
-on : tie.Need-returns
-on c =
-    let b = c.before in
-    let r2 = second_reach (start b).args.s.now in
-    let not_zero : r2 ≡ 0 → ⊥ = rw b.before.second_reach-second_reach.ensures at c.if-second_reach-eq0.false in
-    ((both b).0, rw (ne_eqb r2 0 not_zero) (both b).1)
+  is_not : (of_z w64 r ≡ 0 → ⊥) → n ≡ 0 → ⊥
+  is_not t = rw e at t
 
 pub zones_spec : {M : Type 1} → statement M
-zones_spec = tie.close (tie.spec (λ c κs. search) (λ c κs. search) zone-bits-requires off on)
+zones_spec =
+    tie.close
+    (tie.spec
+    (λ c κs. search) (λ c κs. search) zone-bits-requires
+    (λ c. let zero : second_reach c.args.s.now ≡ 0 = is_zero c.second_reach-second_reach.ensures (search) in ((both c.before).0, rw zero))
+    (λ c.
+    let r2 = second_reach c.args.s.now in
+    let not_zero : r2 ≡ 0 → ⊥ = is_not c.second_reach-second_reach.ensures (search) in
+    ((both c.before).0, rw (ne_eqb r2 0 not_zero) (both c.before).1)))

@@ -14,12 +14,6 @@ keep-bytes-requires c κs =
     let p = c.requires in
     (p.2, c.frame_length-channels.ensures.1, omega (arith, p.3, c.frame_length-channels.ensures.0))
 
-returns : tie.Need-returns-then-window-lt-FULL
-returns c =
-    let p = c.requires in
-    kept_10 _ _ _ _ _ _ c.frame_length-channels.ensures.0 c.frame_length-channels.ensures.1 p.3 c.keep_bytes-window.ensures.0 c.keep_bytes-window.ensures.1
-    c.if-window-lt-FULL.true refl refl
-
 part_decide_end_2 : tie.Need-slice_bounds-decide-end-2
 part_decide_end_2 c =
     let few = c.frame_length-channels.ensures.1 in
@@ -35,12 +29,15 @@ returns-2 : tie.Need-returns
 returns-2 c =
     let p = c.requires in
     kept_on _ _ _ _ _ _ c.frame_length-channels.ensures.0 c.frame_length-channels.ensures.1 p.3 c.keep_bytes-window.ensures.0 c.keep_bytes-window.ensures.1
-    p.1 p.2 c.if-window-lt-FULL.false p.4 (sub-zero _) c.decide.ensures
+    p.1 p.2 (omega arith) p.4 (sub-zero _) c.decide.ensures
 
 pub kept_spec : {M : Type 1} → statement M
 kept_spec =
     tie.close
     (tie.spec
-    (λ c. search rules) (λ c. search rules) (λ c. search rules) (λ c κs. search) keep-bytes-requires (λ c. search) returns
+    (λ c. search rules) (λ c. search rules) (λ c. search rules) (λ c κs. search) keep-bytes-requires (λ c. search)
+    (λ c.
+    kept_10 _ _ _ _ _ _ c.frame_length-channels.ensures.0 c.frame_length-channels.ensures.1 c.requires.3 c.keep_bytes-window.ensures.0 c.keep_bytes-window.ensures.1
+    (omega arith) refl refl)
     (λ c. search rules) (λ c. search rules) (λ c. search rules) (λ c. search rules) (λ c. search rules) (λ c. search rules)
     part_decide_end_2 decide-requires (λ c. search) (λ c. search) returns-2)

@@ -19,10 +19,6 @@ use Rattle.quadrilateral.proofs.sees.Tie as tie
 drop_inside : (c : tie.After-times-zi) → Inside drop_size c.times-zi.result
 drop_inside c = let h = c.before.requires in inside_along c.times-zi.ensures (inside_times h.0 h.4.current)
 
--- whether it lies below the top
-top : (c : tie.After-below_top) → let a = c.before.before.args in c.below_top.result ≡ below_top a.r c.before.times-zi.result a.l.v a.ir
-top c = simp (to_z-of_z c.before.before.ranges.r) at c.below_top.ensures
-
 below-top-requires : tie.Need-below_top-requires
 below-top-requires c κs =
     let h = c.requires in simp (to_z-of_z c.ranges.r) (h.1, drop_inside c.before, h.4.voltage, h.3)
@@ -40,11 +36,11 @@ module _ (z ir : Phasor) (r : ℤ) (limit : ℕ) (l : Loop) {zi : Phasor} {b : B
 returns : tie.Need-returns-then-below_top
 returns c =
     let a = c.args in
-    below a.z a.ir a.r a.limit a.l c.times-zi.ensures (top c.before.before.before.before.before) c.if-below_top.true c.across.ensures.0 c.across-then-below_top.ensures.0 c.between_sides.ensures
+    below a.z a.ir a.r a.limit a.l c.times-zi.ensures (simp (to_z-of_z c.ranges.r) at c.below_top.ensures) c.if-below_top.true c.across.ensures.0 c.across-then-below_top.ensures.0 c.between_sides.ensures
 
 returns-2 : tie.Need-returns-else-below_top
 returns-2 c =
-    let a = c.args in not_below a.z a.ir a.r a.limit a.l c.times-zi.ensures (top c.before) c.if-below_top.false
+    let a = c.args in not_below a.z a.ir a.r a.limit a.l c.times-zi.ensures (simp (to_z-of_z c.ranges.r) at c.below_top.ensures) c.if-below_top.false
 
 pub sees_spec : {M : Type 1} → statement M
 sees_spec =
