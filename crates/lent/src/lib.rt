@@ -4,13 +4,6 @@
 ghost use Rattle.std.specs.Prelude.{◌≡◌, ◌+◌, ◌≤◌, length};
 ghost use Rattle.lent.specs.Lent.{over, first_difference};
 
-// What a comparison finds: no difference, or the first place of one.
-#[derive(Clone, Copy)]
-pub enum Agreement {
-    Same,
-    Differ(usize),
-}
-
 // Writes src over dst, from `at` on; what stands before and after stays.
 pub fn put(dst: &mut [u8], at: usize, src: &[u8])
     requires { at + length src.now ≤ length dst.old }
@@ -24,16 +17,16 @@ pub fn put(dst: &mut [u8], at: usize, src: &[u8])
 }
 
 // The first place at which two slices of one length differ.
-pub fn first_difference(a: &[u8], b: &[u8]) -> Agreement
+pub fn first_difference(a: &[u8], b: &[u8]) -> Option<usize>
     requires { length a.now ≡ length b.now }
     ensures { result ≡ first_difference a.now b.now }
 {
     let mut i = 0;
     while i < a.len() {
         if a[i] != b[i] {
-            return Agreement::Differ(i);
+            return Some(i);
         }
         i += 1;
     }
-    Agreement::Same
+    None
 }
