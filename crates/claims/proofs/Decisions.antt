@@ -6,8 +6,9 @@ use mathlib.Core.Bool.{Bool, true, false, cond, false≢true}
 use borrow.Author.Tests.{eqb-true}
 use lib.IntN.{ℤ}
 use lib.ListN.{length, drop}
+use Rattle.std.specs.Prelude.{Err}
 use Rattle.answers.specs.Answers.{is_done, if_done}
-use Rattle.answers.specs.declared.Answer.TheVariants.{NoRelay}
+use Rattle.answers.specs.declared.Refusal.TheVariants.{NoRelay}
 use Rattle.answers.proofs.Numbers.{zero_is}
 use Rattle.samples.specs.Window.{numbers_of}
 use Rattle.decision.specs.Decision.{decision_length, decision}
@@ -28,7 +29,7 @@ module _ (s b out after : List ℕ) (c : Decided s b out 0 after) where
     where
       by_test :
           (a : Bool) → is_relay s ≡ a
-          → is_done (if_done (cond a (in_force s) NoRelay) (window_answer (fits_bytes s b) (numbers_of b) out) (cond a (in_force s) NoRelay)) ≡ true → length s ≡ state_length
+          → is_done (if_done (cond a (in_force s) (Err NoRelay)) (window_answer (fits_bytes s b) (numbers_of b) out) (cond a (in_force s) (Err NoRelay))) ≡ true → length s ≡ state_length
       by_test true t e = eqb-true (length s) state_length t
       by_test false t e = absurd (false≢true e)
 

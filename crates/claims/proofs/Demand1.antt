@@ -5,9 +5,9 @@ use mathlib.Core.Path.{◌≡◌, refl, sym, ap, subst, subst₂, ◌∙◌}
 use mathlib.Core.List.{List, [], ◌∷◌}
 use mathlib.Core.Bool.{false≢true}
 use lib.ListN.{length}
-use Rattle.answers.specs.declared.Answer.{Answer}
-use Rattle.answers.specs.declared.Answer.TheVariants.{OutOfRange}
-use Rattle.answers.specs.Answers.{given_back, is_done}
+use Rattle.std.specs.Prelude.{Err}
+use Rattle.answers.specs.declared.Refusal.TheVariants.{OutOfRange}
+use Rattle.answers.specs.Answers.{Answer, given_back, is_done}
 use Rattle.settings.specs.Table.{settings_table}
 use Rattle.settings.specs.Check.{checked_by}
 use Rattle.entry.specs.Pair.{Pair, nothing}
@@ -20,7 +20,7 @@ use Rattle.claims.proofs.Relay.{Left, propose_left, confirm_left}
 use Rattle.claims.proofs.Unmoved.{feed_leaves_settings, read_leaves_settings}
 
 -- zero bytes are no good record: the table refuses them at 0
-pub blank : verdict nothing ≡ OutOfRange 0
+pub blank : verdict nothing ≡ Err (OutOfRange 0)
 unfolding checked_by settings_table
 blank = refl
 

@@ -10,10 +10,10 @@ use lib.Dec.{eqb}
 use lib.IntN.{ℤ, pos}
 use lib.Seq.{get_or-drop}
 use lib.ListN.{length, take, drop, replicate, length-append, length-drop, get_or, get_or-append}
+use Rattle.std.specs.Prelude.{Some}
 use Rattle.answers.specs.Answers.{given_back}
 use Rattle.lent.specs.Bytes.{Every, Byte}
 use Rattle.lent.proofs.Every.{every_append, every_drop}
-use Rattle.samples.specs.declared.Found.TheVariants.{At}
 use Rattle.samples.specs.Window.{frames, numbers_of, first_missing}
 use Rattle.samples.proofs.Bytes.{held, numbers_append}
 use Rattle.samples.proofs.Missing.{first_at, is_first}
@@ -209,14 +209,14 @@ hears_over_histories fs s f out n s₁ out₁ h bytes c is-kept = heard fs s f o
 
 -- the list moved on, and the first missing number of it
 missing_later :
-    (m : ℕ) (xs ys : List ℤ) (k : ℕ) → m ≤ k → first_missing xs ≡ At k → first_missing (drop m (xs ++ ys)) ≡ At (k - m)
+    (m : ℕ) (xs ys : List ℤ) (k : ℕ) → m ≤ k → first_missing xs ≡ Some k → first_missing (drop m (xs ++ ys)) ≡ Some (k - m)
 missing_later m xs ys k far e =
     let first = first_at xs k e in
     let at : (i : ℕ) → i ≤ k - m → get_or (drop m (xs ++ ys)) i (pos 0) ≡ get_or xs (m + i) (pos 0) =
     λ i low. get_or-drop m (xs ++ ys) i (pos 0) ∙ get_or-append xs ys (pos 0) (m + i) (omega (arith, first.0)) in
     let size : k - m < length (drop m (xs ++ ys)) = simp (length-drop, length-append) (omega (arith, first.0)) in
     let back : m + (k - m) ≡ k = omega arith in
-    sym (is_first (drop m (xs ++ ys)) (At (k - m)) (
+    sym (is_first (drop m (xs ++ ys)) (Some (k - m)) (
       size,
       at (k - m) (omega arith) ∙ ap (λ (i : ℕ). get_or xs i (pos 0)) back ∙ first.1,
       λ i below there. first.2 (m + i) (omega arith) (sym (at i (omega arith)) ∙ there),

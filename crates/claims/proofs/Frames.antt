@@ -9,12 +9,10 @@ use lib.Dec.{leb}
 use lib.IntN.{ℤ}
 use lib.ListN.{length}
 use lib.Seq.{length-take-le}
-use Rattle.answers.specs.declared.Answer.{Answer}
-use Rattle.answers.specs.declared.Answer.TheVariants.{Done, NoSettings, NoRoom, OtherFrameLength, TooFewFrames, NoRelay}
-use Rattle.answers.specs.Answers.{given_back, number_in, is_done, if_done}
+use Rattle.std.specs.Prelude.{Ok, Err, Option, Some, None}
+use Rattle.answers.specs.declared.Refusal.TheVariants.{NoSettings, NoRoom, OtherFrameLength, TooFewFrames, NoRelay}
+use Rattle.answers.specs.Answers.{Answer, given_back, number_in, is_done, if_done}
 use Rattle.answers.proofs.Numbers.{not_zero_refused}
-use Rattle.samples.specs.declared.Found.{Found}
-use Rattle.samples.specs.declared.Found.TheVariants.{Nothing, At}
 use Rattle.samples.specs.Window.{frames, window_length, numbers_of, first_missing}
 use Rattle.samples.proofs.Bytes.{held}
 use Rattle.samples.proofs.Missing.{first_at, first_nothing, is_first, first_in_order}
@@ -44,8 +42,8 @@ module _ (s f out : List ℕ) where
   -- the tests of 17, 1, 9 and 3, and where they are all passed
   abbrev passing : Bool → Bool → Bool → Bool → Answer
   passing a y x b =
-      let first = cond a (cond y Done NoSettings) NoRelay in
-      if_done first (cond x (cond b Done NoRoom) OtherFrameLength) first
+      let first = cond a (cond y (Ok tt) (Err NoSettings)) (Err NoRelay) in
+      if_done first (cond x (cond b (Ok tt) (Err NoRoom)) (Err OtherFrameLength)) first
 
   passed : is_relay s ≡ true → is_done (verdict r) ≡ true → fits_frame r f ≡ true → leb decision_length (length out) ≡ true → Keepable s f out
   passed p q u v = record { relay = relay s p; good = accepted r q; whole = eqb-true _ _ u; room = leb-true _ _ v }
@@ -63,7 +61,7 @@ module _ (s f out : List ℕ) where
       by_tests false y x b p q u v t = absurd (false≢true t)
 
   module _ (k : Keepable s f out) where
-    pub keeps_done : feed_keeps s f out ≡ Done
+    pub keeps_done : feed_keeps s f out ≡ Ok tt
     keeps_done = rw (eq-eqb (length s) state_length k.relay, k.good, eq-eqb (length f) (2 * m) k.whole, le-leb decision_length (length out) k.room)
 
     pub few : ends r ≤ 6
@@ -82,9 +80,9 @@ module _ (s f out : List ℕ) where
   -- ---- row by row
 
   feed_row :
-      (a y x b e : Bool) (z : Found) → is_relay s ≡ a → is_done (verdict r) ≡ y → fits_frame r f ≡ x → leb decision_length (length out) ≡ b
+      (a y x b e : Bool) (z : Option ℕ) → is_relay s ≡ a → is_done (verdict r) ≡ y → fits_frame r f ≡ x → leb decision_length (length out) ≡ b
       → leb frames (counted frames (window_of s).count) ≡ e → first_missing (newest_of s f) ≡ z →
-      FeedRow s f out (given_back (if_done (passing a y x b) (cond e (of_found z) TooFewFrames) (passing a y x b)))
+      FeedRow s f out (given_back (if_done (passing a y x b) (cond e (of_found z) (Err TooFewFrames)) (passing a y x b)))
   feed_row false y x b e z p q u v g h = row.FeedRow.no_relay (no_relay s p)
   feed_row true false x b e z p q u v g h = row.FeedRow.no_settings (relay s p) (not_accepted r q)
   feed_row true true false b e z p q u v g h = row.FeedRow.frame_length (relay s p) (accepted r q) (eqb-false _ _ u)
@@ -93,26 +91,26 @@ module _ (s f out : List ℕ) where
       let k = passed p q u v in
       let less = leb-false frames (counted frames (window_of s).count) g in
       row.FeedRow.too_few k (omega arith)
-  feed_row true true true true true (At i) p q u v g h =
+  feed_row true true true true true (Some i) p q u v g h =
       let k = passed p q u v in
       let enough = leb-true frames (counted frames (window_of s).count) g in
       let first = first_at (newest_of s f) i h in
       row.FeedRow.missing_sample k (omega arith) i (rw (newest_length k) at first.0) first.1 first.2
-  feed_row true true true true true Nothing p q u v g h =
+  feed_row true true true true true None p q u v g h =
       let k = passed p q u v in
       let enough = leb-true frames (counted frames (window_of s).count) g in
       row.FeedRow.done k (omega arith) (rw (newest_length k) at (first_nothing (newest_of s f) h))
 
   -- a frame that is kept: 10, or what is found in the newest 16
-  pub early_answer : Keepable s f out → (window_of s).count + 1 < frames → feed_answer s f out ≡ TooFewFrames
+  pub early_answer : Keepable s f out → (window_of s).count + 1 < frames → feed_answer s f out ≡ Err TooFewFrames
   early_answer k less =
       let no = lt-leb frames (counted frames (window_of s).count) (omega arith) in
-      ap₂ (λ (a : Answer) (e : Bool). if_done a (cond e (of_found (first_missing (newest_of s f))) TooFewFrames) a) (keeps_done k) no
+      ap₂ (λ (a : Answer) (e : Bool). if_done a (cond e (of_found (first_missing (newest_of s f))) (Err TooFewFrames)) a) (keeps_done k) no
 
   pub full_answer : Keepable s f out → frames ≤ (window_of s).count + 1 → feed_answer s f out ≡ of_found (first_missing (newest_of s f))
   full_answer k enough =
       let yes = le-leb frames (counted frames (window_of s).count) (omega arith) in
-      ap₂ (λ (a : Answer) (e : Bool). if_done a (cond e (of_found (first_missing (newest_of s f))) TooFewFrames) a) (keeps_done k) yes
+      ap₂ (λ (a : Answer) (e : Bool). if_done a (cond e (of_found (first_missing (newest_of s f))) (Err TooFewFrames)) a) (keeps_done k) yes
 
   row_feed : (n : ℕ) → FeedRow s f out n → given_back (feed_answer s f out) ≡ n
   row_feed n (row.FeedRow.no_relay l) = rw (ne_eqb (length s) state_length l)
@@ -121,10 +119,10 @@ module _ (s f out : List ℕ) where
   row_feed n (row.FeedRow.no_room l g h q) = rw (eq-eqb (length s) state_length l, g, eq-eqb (length f) (2 * m) h, lt-leb decision_length (length out) q)
   row_feed n (row.FeedRow.too_few k less) = ap given_back (early_answer k less)
   row_feed n (row.FeedRow.missing_sample k enough i below there before) =
-      let first = is_first (newest_of s f) (At i) (rw (newest_length k) below, there, before) in
+      let first = is_first (newest_of s f) (Some i) (rw (newest_length k) below, there, before) in
       ap given_back (full_answer k enough ∙ ap of_found (sym first))
   row_feed n (row.FeedRow.done k enough none) =
-      let first = is_first (newest_of s f) Nothing (rw (newest_length k) none) in
+      let first = is_first (newest_of s f) None (rw (newest_length k) none) in
       ap given_back (full_answer k enough ∙ ap of_found (sym first))
 
 pub feed_answers : FeedAnswers
@@ -185,7 +183,7 @@ fed_as_decided s f out n s₁ out₁ c is-kept enough b same long =
     }
 
 -- an answer of 4 is in its row, with its place: there are 16 frames, and it is the first missing number of them
-pub row_4 : (s f out : List ℕ) (n k : ℕ) → FeedRow s f out n → n ≡ 256 * k + 4 → (frames ≤ (window_of s).count + 1) × (first_missing (newest_of s f) ≡ At k)
+pub row_4 : (s f out : List ℕ) (n k : ℕ) → FeedRow s f out n → n ≡ 256 * k + 4 → (frames ≤ (window_of s).count + 1) × (first_missing (newest_of s f) ≡ Some k)
 row_4 s f out n k (row.FeedRow.no_relay l) z = absurd (omega arith)
 row_4 s f out n k (row.FeedRow.no_settings l g) z = absurd (omega arith)
 row_4 s f out n k (row.FeedRow.frame_length l g h) z = absurd (omega arith)
@@ -193,7 +191,7 @@ row_4 s f out n k (row.FeedRow.no_room l g h q) z = absurd (omega arith)
 row_4 s f out n k (row.FeedRow.too_few h less) z = absurd (omega arith)
 row_4 s f out n k (row.FeedRow.missing_sample h enough i below there before) z =
     let same : i ≡ k = omega arith in
-    (enough, sym (is_first (newest_of s f) (At i) (rw (newest_length s f out h) below, there, before)) ∙ ap At same)
+    (enough, sym (is_first (newest_of s f) (Some i) (rw (newest_length s f out h) below, there, before)) ∙ ap Some same)
 row_4 s f out n k (row.FeedRow.done h enough none) z = absurd (omega arith)
 
 pub missing_in_frames : MissingInFrames

@@ -7,16 +7,13 @@ use mathlib.Core.Bool.{Bool, true, false, cond, false≢true}
 use borrow.Author.Tests.{eq-eqb, ne_eqb, le-leb, lt-leb, eqb-true, eqb-false, leb-true, leb-false}
 use lib.Dec.{eqb, leb}
 use lib.ListN.{length}
+use Rattle.std.specs.Prelude.{Ok, Err, Option, Some, None}
 use Rattle.whole.specs.Exactly.{Exactly}
-use Rattle.answers.specs.declared.Answer.TheVariants.{Done, NoSettings, OtherWindowLength, NoRoom, OtherEntryLength, NothingPending, NoRelay}
+use Rattle.answers.specs.declared.Refusal.TheVariants.{NoSettings, OtherWindowLength, NoRoom, OtherEntryLength, NothingPending, NoRelay}
 use Rattle.answers.specs.Answers.{given_back, is_done, if_done}
 use Rattle.answers.proofs.Numbers.{done_is, else_false}
-use Rattle.lent.specs.declared.Agreement.{Agreement}
-use Rattle.lent.specs.declared.Agreement.TheVariants.{Same, Differ}
 use Rattle.lent.specs.Lent.{first_difference}
 use Rattle.lent.proofs.Differences.{difference_first, first_difference_lem, difference_same, difference_self}
-use Rattle.samples.specs.declared.Found.{Found}
-use Rattle.samples.specs.declared.Found.TheVariants.{Nothing, At}
 use Rattle.samples.specs.Window.{numbers_of, first_missing}
 use Rattle.samples.proofs.Bytes.{held}
 use Rattle.samples.proofs.Missing.{first_at, first_nothing, is_first}
@@ -61,7 +58,7 @@ refused r f = else_false (is_done (verdict r)) (λ t. f (accepted r t))
 module _ (s e : List ℕ) where
   propose_row :
       (a b : Bool) (f : Checked) → is_relay s ≡ a → eqb (length e) record_length ≡ b → checked e ≡ f →
-      ProposeRow s e (given_back (cond a (cond b (of_check f) OtherEntryLength) NoRelay))
+      ProposeRow s e (given_back (cond a (cond b (of_check f) (Err OtherEntryLength)) (Err NoRelay)))
   propose_row false b f t u v = row.ProposeRow.no_relay (no_relay s t)
   propose_row true false f t u v = row.ProposeRow.entry_length (relay s t) (eqb-false _ _ u)
   propose_row true true (Bad k) t u v = row.ProposeRow.out_of_range (relay s t) (eqb-true _ _ u) k (fault_found settings_table e k v)
@@ -81,14 +78,14 @@ propose_answers s e n after c =
 
 module _ (s e : List ℕ) where
   confirm_row :
-      (a b y : Bool) (d : Agreement) → is_relay s ≡ a → eqb (length e) record_length ≡ b → is_done (verdict (settings_of s).pending) ≡ y
+      (a b y : Bool) (d : Option ℕ) → is_relay s ≡ a → eqb (length e) record_length ≡ b → is_done (verdict (settings_of s).pending) ≡ y
       → first_difference (settings_of s).pending e ≡ d →
-      ConfirmRow s e (given_back (cond a (cond b (if_done (cond y Done NothingPending) (of_difference d) (cond y Done NothingPending)) OtherEntryLength) NoRelay))
+      ConfirmRow s e (given_back (cond a (cond b (if_done (cond y (Ok tt) (Err NothingPending)) (of_difference d) (cond y (Ok tt) (Err NothingPending))) (Err OtherEntryLength)) (Err NoRelay)))
   confirm_row false b y d t u v w = row.ConfirmRow.no_relay (no_relay s t)
   confirm_row true false y d t u v w = row.ConfirmRow.entry_length (relay s t) (eqb-false _ _ u)
   confirm_row true true false d t u v w = row.ConfirmRow.nothing_pending (relay s t) (eqb-true _ _ u) (not_accepted _ v)
-  confirm_row true true true (Differ k) t u v w = row.ConfirmRow.differs (relay s t) (eqb-true _ _ u) (accepted _ v) k (difference_first k _ e w)
-  confirm_row true true true Same t u v w =
+  confirm_row true true true (Some k) t u v w = row.ConfirmRow.differs (relay s t) (eqb-true _ _ u) (accepted _ v) k (difference_first k _ e w)
+  confirm_row true true true None t u v w =
       let l = relay s t in
       let h = eqb-true (length e) record_length u in
       row.ConfirmRow.done l h (accepted _ v) (difference_same _ e ((sized s l).pending ∙ sym h) w)
@@ -114,7 +111,7 @@ confirm_answers s e n after c =
 module _ (s out : List ℕ) where
   read_row :
       (a y m : Bool) → is_relay s ≡ a → is_done (verdict (settings_of s).force) ≡ y → leb record_length (length out) ≡ m →
-      ReadBackRow s out (given_back (if_done (cond a (cond y Done NoSettings) NoRelay) (cond m Done NoRoom) (cond a (cond y Done NoSettings) NoRelay)))
+      ReadBackRow s out (given_back (if_done (cond a (cond y (Ok tt) (Err NoSettings)) (Err NoRelay)) (cond m (Ok tt) (Err NoRoom)) (cond a (cond y (Ok tt) (Err NoSettings)) (Err NoRelay))))
   read_row false y m t u v = row.ReadBackRow.no_relay (no_relay s t)
   read_row true false m t u v = row.ReadBackRow.no_settings (relay s t) (not_accepted _ u)
   read_row true true false t u v = row.ReadBackRow.no_room (relay s t) (accepted _ u) (leb-false _ _ v)
@@ -135,19 +132,19 @@ read_back_answers s out n after c =
 
 module _ (s b out : List ℕ) where
   decide_row :
-      (a y f m : Bool) (x : Found) → is_relay s ≡ a → is_done (verdict (settings_of s).force) ≡ y → fits_bytes s b ≡ f
+      (a y f m : Bool) (x : Option ℕ) → is_relay s ≡ a → is_done (verdict (settings_of s).force) ≡ y → fits_bytes s b ≡ f
       → leb decision_length (length out) ≡ m → first_missing (numbers_of b) ≡ x →
       DecideRow s b out
-      (given_back (if_done (cond a (cond y Done NoSettings) NoRelay) (cond f (cond m (of_found x) NoRoom) OtherWindowLength) (cond a (cond y Done NoSettings) NoRelay)))
+      (given_back (if_done (cond a (cond y (Ok tt) (Err NoSettings)) (Err NoRelay)) (cond f (cond m (of_found x) (Err NoRoom)) (Err OtherWindowLength)) (cond a (cond y (Ok tt) (Err NoSettings)) (Err NoRelay))))
   decide_row false y f m x t u v w z = row.DecideRow.no_relay (no_relay s t)
   decide_row true false f m x t u v w z = row.DecideRow.no_settings (relay s t) (not_accepted _ u)
   decide_row true true false m x t u v w z = row.DecideRow.window_length (relay s t) (accepted _ u) (eqb-false _ _ v)
   decide_row true true true false x t u v w z = row.DecideRow.no_room (relay s t) (accepted _ u) (eqb-true _ _ v) (leb-false _ _ w)
-  decide_row true true true true (At k) t u v w z =
+  decide_row true true true true (Some k) t u v w z =
       let h = eqb-true (length b) (2 * length_in_force s) v in
       let first = first_at (numbers_of b) k z in
       row.DecideRow.missing_sample (relay s t) (accepted _ u) h (leb-true _ _ w) k (rw (held (length_in_force s) b h) at first.0) first.1 first.2
-  decide_row true true true true Nothing t u v w z =
+  decide_row true true true true None t u v w z =
       let h = eqb-true (length b) (2 * length_in_force s) v in
       row.DecideRow.done (relay s t) (accepted _ u) h (leb-true _ _ w) (rw (held (length_in_force s) b h) at (first_nothing (numbers_of b) z))
 
@@ -158,10 +155,10 @@ module _ (s b out : List ℕ) where
   row_decide m (row.DecideRow.no_room l g h q) =
       rw (eq-eqb (length s) state_length l, g, eq-eqb (length b) (2 * length_in_force s) h, lt-leb decision_length (length out) q)
   row_decide m (row.DecideRow.missing_sample l g h q k i there before) =
-      let first = is_first (numbers_of b) (At k) (rw (held (length_in_force s) b h) i, there, before) in
+      let first = is_first (numbers_of b) (Some k) (rw (held (length_in_force s) b h) i, there, before) in
       rw (eq-eqb (length s) state_length l, g, eq-eqb (length b) (2 * length_in_force s) h, le-leb decision_length (length out) q, ← first)
   row_decide m (row.DecideRow.done l g h q none) =
-      let first = is_first (numbers_of b) Nothing (rw (held (length_in_force s) b h) none) in
+      let first = is_first (numbers_of b) None (rw (held (length_in_force s) b h) none) in
       rw (eq-eqb (length s) state_length l, g, eq-eqb (length b) (2 * length_in_force s) h, le-leb decision_length (length out) q, ← first)
 
 pub decide_answers : DecideAnswers

@@ -7,8 +7,7 @@ use native.Mathlib.Omega.{arith}
 use borrow.Author.Tests.{eq-eqb}
 use lib.ListN.{length, drop, length-drop}
 use lib.Seq.{length-take-le}
-use Rattle.answers.specs.declared.Answer.{Answer}
-use Rattle.answers.specs.Answers.{given_back, is_done, if_done}
+use Rattle.answers.specs.Answers.{Answer, given_back, is_done, if_done}
 use Rattle.stream.specs.Window.{none}
 use Rattle.stream.specs.Stored.{stored_length, stored}
 use Rattle.stream.proofs.Storing.{none_stored}

@@ -6,10 +6,10 @@ use native.Mathlib.Omega.{arith}
 use borrow.Author.Tests.{eq-eqb, ne_eqb, le-leb}
 use lib.ListN.{length, take, drop}
 use lib.Seq.{take_at, drop_at}
+use Rattle.std.specs.Prelude.{Some}
 use Rattle.answers.proofs.Numbers.{zero_is, not_zero_refused}
 use Rattle.lent.specs.Lent.{FirstAt}
 use Rattle.lent.proofs.Differences.{difference_self}
-use Rattle.samples.specs.declared.Found.TheVariants.{At}
 use Rattle.samples.specs.Window.{channels, numbers_of, first_missing}
 use Rattle.samples.proofs.Bytes.{held}
 use Rattle.samples.proofs.Missing.{is_first, first_in_order}
@@ -104,14 +104,14 @@ pub differs_at_first : DiffersAtFirst
 differs_at_first s e k s₁ c = row_8 s e _ k ((confirm_answers s e _ s₁ c _).0 refl) refl
 
 -- and so is an answer of 4
-row_4 : (s b out : List ℕ) (n k : ℕ) → DecideRow s b out n → n ≡ 256 * k + 4 → first_missing (numbers_of b) ≡ At k
+row_4 : (s b out : List ℕ) (n k : ℕ) → DecideRow s b out n → n ≡ 256 * k + 4 → first_missing (numbers_of b) ≡ Some k
 row_4 s b out n k (row.DecideRow.no_relay l) z = absurd (omega arith)
 row_4 s b out n k (row.DecideRow.no_settings l g) z = absurd (omega arith)
 row_4 s b out n k (row.DecideRow.window_length l g h) z = absurd (omega arith)
 row_4 s b out n k (row.DecideRow.no_room l g h q) z = absurd (omega arith)
 row_4 s b out n k (row.DecideRow.missing_sample l g h q i below there before) z =
     let same : i ≡ k = omega arith in
-    sym (is_first (numbers_of b) (At i) (rw (held (length_in_force s) b h) below, there, before)) ∙ ap At same
+    sym (is_first (numbers_of b) (Some i) (rw (held (length_in_force s) b h) below, there, before)) ∙ ap Some same
 row_4 s b out n k (row.DecideRow.done l g h q none) z = absurd (omega arith)
 
 pub missing_in_order : MissingInOrder

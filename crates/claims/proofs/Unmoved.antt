@@ -7,8 +7,7 @@ use native.Mathlib.Omega.{arith}
 use borrow.Author.Tests.{eq-eqb}
 use lib.ListN.{length, take, replicate, drop_of_length-le}
 use lib.Seq.{length-take-le}
-use Rattle.answers.specs.declared.Answer.{Answer}
-use Rattle.answers.specs.Answers.{given_back, is_done}
+use Rattle.answers.specs.Answers.{Answer, given_back, is_done}
 use Rattle.answers.proofs.Numbers.{not_zero_refused, zero_is}
 use Rattle.lent.proofs.Over.{over_from}
 use Rattle.samples.specs.Window.{frames, numbers_of}

@@ -1,7 +1,6 @@
 -- Document 01, "What a reader may rely on": a claim leaves one possible result for each input, bad ones too.
 use Rattle.std.specs.Prelude.{ℕ, ◌≡◌, List, ℤ}
-use Rattle.answers.specs.declared.Answer.{Answer}
-use Rattle.answers.specs.Answers.{number, place, given_back, number_in, place_in}
+use Rattle.answers.specs.Answers.{Answer, number, place, given_back, number_in, place_in}
 use Rattle.gorsepetal.specs.Calls.{Proposed, Confirmed, ReadBack, Decided, DecidedNumbers, Fed}
 
 -- A claim is about two lent slices, the number given back, and what the slice that may change holds after the call.

@@ -7,9 +7,10 @@ use mathlib.Core.Bool.{Bool, true, false, cond, ◌&&◌}
 use native.Mathlib.Omega.{arith}
 use borrow.Author.Tests.{eq-eqb, ne_eqb, eqb-true}
 use lib.ListN.{length}
+use Rattle.std.specs.Prelude.{Err}
 use Rattle.answers.specs.Answers.{given_back}
 use Rattle.answers.proofs.Numbers.{else_false}
-use Rattle.answers.specs.declared.Answer.TheVariants.{NoRelay}
+use Rattle.answers.specs.declared.Refusal.TheVariants.{NoRelay}
 use Rattle.records.specs.Record.{good_file, narrow, frame_in}
 use Rattle.records.proofs.Writing.{both}
 use Rattle.files.specs.Reader.{Ending, BadFile, OtherNumber, InsideRecord, answer_of, Reader, Ended, Reading, Outcome, Stopped, More, Whole, wanted, refusal, read_outcome, read_next, end_answer, end_next}
@@ -68,7 +69,7 @@ refusals_end s r p out ends status i s₁ r₁ out₁ = (opening, reading, endin
       where
         by_tests :
             (a : Bool) → is_reader r ≡ a → (b : Bool) → good_file ends status ≡ b →
-            13 ≡ given_back (cond a (refusal (cond b (Reading (narrow ends status) 0 []) (Ended BadFile))) NoRelay) → reader_of r₁ ≡ Ended BadFile
+            13 ≡ given_back (cond a (refusal (cond b (Reading (narrow ends status) 0 []) (Ended BadFile))) (Err NoRelay)) → reader_of r₁ ≡ Ended BadFile
         by_tests false t b u z = absurd (omega arith)
         by_tests true t true u z = absurd (omega arith)
         by_tests true t false u z = ap reader_of (c.reader ∙ rw t) ∙ opened_reads ends status ∙ rw u
@@ -84,14 +85,14 @@ refusals_end s r p out ends status i s₁ r₁ out₁ = (opening, reading, endin
             let f = frame_in sh.ends g in
             absurd (not_12 s f out _ i ((feed_answers s f out _ _ _ (record { given = refl; state = refl; buffer = refl }) _).0 refl) (sym z))
 
-        by_test : (b : Bool) → both_lent s r ≡ b → 256 * i + 12 ≡ given_back (cond b (answer_by (piece_outcome r p) s out) NoRelay) → reader_of r₁ ≡ Ended (OtherNumber i)
+        by_test : (b : Bool) → both_lent s r ≡ b → 256 * i + 12 ≡ given_back (cond b (answer_by (piece_outcome r p) s out) (Err NoRelay)) → reader_of r₁ ≡ Ended (OtherNumber i)
         by_test true t z = by_outcome t (piece_outcome r p) refl z
         by_test false t z = absurd (omega arith)
 
     ending : EventsEnded r (256 * i + 11) r₁ → reader_of r₁ ≡ Ended (InsideRecord i)
     ending c = by_test (is_reader r) refl c.given
       where
-        by_test : (b : Bool) → is_reader r ≡ b → 256 * i + 11 ≡ given_back (cond b (end_answer (reader_of r)) NoRelay) → reader_of r₁ ≡ Ended (InsideRecord i)
+        by_test : (b : Bool) → is_reader r ≡ b → 256 * i + 11 ≡ given_back (cond b (end_answer (reader_of r)) (Err NoRelay)) → reader_of r₁ ≡ Ended (InsideRecord i)
         by_test true t z = ap reader_of (c.reader ∙ rw t) ∙ end_reads r (eqb-true (length r) reader_length t) ∙ by_11 (end_next (reader_of r)) i z
         by_test false t z = absurd (omega arith)
 
@@ -130,7 +131,7 @@ zero_means s r p out s₁ r₁ out₁ c = by_test (both_lent s r) refl (piece_ou
     some_number (InsideRecord i) z = omega arith
 
     by_test :
-        (b : Bool) → both_lent s r ≡ b → (o : Outcome) → piece_outcome r p ≡ o → 0 ≡ given_back (cond b (answer_by o s out) NoRelay)
+        (b : Bool) → both_lent s r ≡ b → (o : Outcome) → piece_outcome r p ≡ o → 0 ≡ given_back (cond b (answer_by o s out) (Err NoRelay))
         → (length p < wanted_in r → handed s r p ≡ []) × (wanted_in r ≤ length p → (f : List ℕ) × (handed s r p ≡ f ∷ []))
     by_test false t o u z = absurd (omega arith)
     by_test true t (Stopped e) u z = absurd (some_number e z)

@@ -7,7 +7,8 @@ use native.Mathlib.Omega.{arith}
 use borrow.Author.Tests.{eq-eqb, ne_eqb, le-leb, lt-leb, lt-ltb, le-ltb, eqb-true, eqb-false, leb-true, leb-false, ltb-true, ltb-false}
 use lib.Dec.{eqb, leb, ltb}
 use lib.ListN.{length}
-use Rattle.answers.specs.declared.Answer.TheVariants.{Done, NoRoom, OtherFrameLength, OtherNumber, BadFile, NoRelay}
+use Rattle.std.specs.Prelude.{Ok, Err}
+use Rattle.answers.specs.declared.Refusal.TheVariants.{NoRoom, OtherFrameLength, OtherNumber, BadFile, NoRelay}
 use Rattle.answers.specs.Answers.{given_back}
 use Rattle.answers.proofs.Numbers.{else_false}
 use Rattle.samples.specs.Window.{channels}
@@ -52,12 +53,12 @@ not_file : (ends status : ℕ) → (GoodFile ends status → ⊥) → good_file 
 not_file ends status n = else_false (good_file ends status) (λ t. n (is_file ends status t))
 
 open_row : (r : List ℕ) (ends status : ℕ) (a b : Bool) → is_reader r ≡ a → good_file ends status ≡ b →
-    OpenRow r ends status (given_back (cond a (refusal (cond b (Reading (narrow ends status) 0 []) (Ended reader.BadFile))) NoRelay))
+    OpenRow r ends status (given_back (cond a (refusal (cond b (Reading (narrow ends status) 0 []) (Ended reader.BadFile))) (Err NoRelay)))
 open_row r ends status false b t u = row.OpenRow.no_reader (not_reader r t)
 open_row r ends status true false t u = row.OpenRow.bad_file (is_reader_lem r t) (λ g. false≢true (sym u ∙ file_is ends status g))
 open_row r ends status true true t u = row.OpenRow.done (is_reader_lem r t) (is_file ends status u)
 
-row_open : (r : List ℕ) (ends status m : ℕ) → OpenRow r ends status m → given_back (cond (is_reader r) (refusal (opened (narrow ends status))) NoRelay) ≡ m
+row_open : (r : List ℕ) (ends status m : ℕ) → OpenRow r ends status m → given_back (cond (is_reader r) (refusal (opened (narrow ends status))) (Err NoRelay)) ≡ m
 row_open r ends status m (row.OpenRow.no_reader l) = rw (ne_eqb (length r) reader_length l)
 row_open r ends status m (row.OpenRow.bad_file l n) = rw (eq-eqb (length r) reader_length l, not_file ends status n)
 row_open r ends status m (row.OpenRow.done l g) = rw (eq-eqb (length r) reader_length l, file_is ends status g)
@@ -65,7 +66,7 @@ row_open r ends status m (row.OpenRow.done l g) = rw (eq-eqb (length r) reader_l
 pub events_open_answers : EventsOpenAnswers
 events_open_answers r ends status n r₁ c = both _ c.given (open_row r ends status (is_reader r) (good_file ends status) refl refl) (row_open r ends status)
 
-end_row : (r : List ℕ) (a : Bool) (x : Reader) → is_reader r ≡ a → reader_of r ≡ x → EndRow r (given_back (cond a (end_answer x) NoRelay))
+end_row : (r : List ℕ) (a : Bool) (x : Reader) → is_reader r ≡ a → reader_of r ≡ x → EndRow r (given_back (cond a (end_answer x) (Err NoRelay)))
 end_row r false x t u = row.EndRow.no_reader (not_reader r t)
 end_row r true (Ended e) t u = row.EndRow.ended (is_reader_lem r t) e u
 end_row r true (Reading sh i []) t u = row.EndRow.done (is_reader_lem r t) sh i u
@@ -75,7 +76,7 @@ inside : (sh : Shape) (i : ℕ) (h : List ℕ) → 0 < length h → given_back (
 inside sh i [] l = absurd (omega arith)
 inside sh i (b ∷ h) l = refl
 
-row_end : (r : List ℕ) (m : ℕ) → EndRow r m → given_back (cond (is_reader r) (end_answer (reader_of r)) NoRelay) ≡ m
+row_end : (r : List ℕ) (m : ℕ) → EndRow r m → given_back (cond (is_reader r) (end_answer (reader_of r)) (Err NoRelay)) ≡ m
 row_end r m (row.EndRow.no_reader l) = rw (ne_eqb (length r) reader_length l)
 row_end r m (row.EndRow.ended l e u) = rw (eq-eqb (length r) reader_length l, u)
 row_end r m (row.EndRow.inside_record l sh i h u k) = rw (eq-eqb (length r) reader_length l, u) (inside sh i h k)
@@ -87,7 +88,7 @@ events_end_answers r n r₁ c = both _ c.given (end_row r (is_reader r) (reader_
 module _ (ends written : ℕ) (f out : List ℕ) where
   write_row :
       (a b c d : Bool) → good_ends ends ≡ a → eqb (length f) (2 * channels ends) ≡ b → leb (record_length (narrow ends 0)) (length out) ≡ c → ltb written last_number ≡ d →
-      WriteRow ends written f out (given_back (cond a (cond b (cond c (cond d Done (OtherNumber 0)) NoRoom) OtherFrameLength) BadFile))
+      WriteRow ends written f out (given_back (cond a (cond b (cond c (cond d (Ok tt) (Err (OtherNumber 0))) (Err NoRoom)) (Err OtherFrameLength)) (Err BadFile)))
   write_row false b c d t u v w = row.WriteRow.bad_file (λ g. false≢true (sym t ∙ are_ends ends g))
   write_row true false c d t u v w = row.WriteRow.frame_length (ends_are ends t) (eqb-false _ _ u)
   write_row true true false d t u v w = row.WriteRow.no_room (ends_are ends t) (eqb-true _ _ u) (leb-false _ _ v)
@@ -96,7 +97,7 @@ module _ (ends written : ℕ) (f out : List ℕ) where
 
   row_write :
       (m : ℕ) → WriteRow ends written f out m →
-      given_back (cond (good_ends ends) (cond (eqb (length f) (2 * channels ends)) (cond (leb (record_length (narrow ends 0)) (length out)) (cond (ltb written last_number) Done (OtherNumber 0)) NoRoom) OtherFrameLength) BadFile) ≡ m
+      given_back (cond (good_ends ends) (cond (eqb (length f) (2 * channels ends)) (cond (leb (record_length (narrow ends 0)) (length out)) (cond (ltb written last_number) (Ok tt) (Err (OtherNumber 0))) (Err NoRoom)) (Err OtherFrameLength)) (Err BadFile)) ≡ m
   row_write m (row.WriteRow.bad_file n) = rw (not_ends ends n)
   row_write m (row.WriteRow.frame_length g l) = rw (are_ends ends g, ne_eqb (length f) (2 * channels ends) l)
   row_write m (row.WriteRow.no_room g l r) = rw (are_ends ends g, eq-eqb (length f) (2 * channels ends) l, lt-leb (record_length (narrow ends 0)) (length out) r)
@@ -148,14 +149,14 @@ module _ (s r p out : List ℕ) where
         by_test false t = refl
 
   read_row :
-      (a b : Bool) (x : Reader) → is_relay s ≡ a → is_reader r ≡ b → reader_of r ≡ x → ReadRow s r p out (given_back (cond (a && b) (answer_by (reader.read_outcome x p) s out) NoRelay))
+      (a b : Bool) (x : Reader) → is_relay s ≡ a → is_reader r ≡ b → reader_of r ≡ x → ReadRow s r p out (given_back (cond (a && b) (answer_by (reader.read_outcome x p) s out) (Err NoRelay)))
   read_row false b x t u e = row.ReadRow.no_relay (no_relay s t)
   read_row true false x t u e = row.ReadRow.no_reader (relay s t) (not_reader r u)
   read_row true true (Ended y) t u e = row.ReadRow.ended (relay s t) (is_reader_lem r u) y e
   read_row true true (Reading sh i h) t u e =
       read_on sh i h (wrong_number i (in_hand sh h p)) (leb (record_length sh) (length (in_hand sh h p))) refl refl (relay s t) (is_reader_lem r u) e
 
-  row_read : (m : ℕ) → ReadRow s r p out m → given_back (cond (both_lent s r) (answer_by (reader.read_outcome (reader_of r) p) s out) NoRelay) ≡ m
+  row_read : (m : ℕ) → ReadRow s r p out m → given_back (cond (both_lent s r) (answer_by (reader.read_outcome (reader_of r) p) s out) (Err NoRelay)) ≡ m
   row_read m (row.ReadRow.no_relay l) = rw (ne_eqb (length s) state_length l)
   row_read m (row.ReadRow.no_reader l k) = rw (eq-eqb (length s) state_length l, ne_eqb (length r) reader_length k)
   row_read m (row.ReadRow.ended l k y e) = rw (eq-eqb (length s) state_length l, eq-eqb (length r) reader_length k, e)

@@ -9,8 +9,9 @@ use lib.Dec.{leb}
 use lib.IntN.{ℤ}
 use lib.ListN.{length, take, drop}
 use lib.Seq.{take-take, length-take-le}
-use Rattle.answers.specs.declared.Answer.{Answer}
-use Rattle.answers.specs.declared.Answer.TheVariants.{NoRoom, OtherFrameLength, TooFewFrames}
+use Rattle.std.specs.Prelude.{Err}
+use Rattle.answers.specs.Answers.{Answer}
+use Rattle.answers.specs.declared.Refusal.TheVariants.{NoRoom, OtherFrameLength, TooFewFrames}
 use Rattle.lent.specs.Lent.{over}
 use Rattle.lent.proofs.Over.{over_before}
 use Rattle.samples.specs.Window.{frames, window_length, numbers_of, HoldsNumbers}
@@ -29,13 +30,13 @@ use Rattle.feed.specs.Feed.{numbers_of_frame, record_of, with_frame, newest_fram
 -- ---- 9, 3, or the frame is kept
 
 module _ {at : ℕ} {s f out : List ℕ} {m : ℕ} (many : m ≡ numbers_of_frame (record_of s)) where
-  pub feed_9 : {s₁ out₁ : List ℕ} {a : Answer} → (length f ≡ 2 * m → ⊥) → a ≡ OtherFrameLength → s₁ ≡ s → out₁ ≡ out → Fed at s f out a s₁ out₁
+  pub feed_9 : {s₁ out₁ : List ℕ} {a : Answer} → (length f ≡ 2 * m → ⊥) → a ≡ Err OtherFrameLength → s₁ ≡ s → out₁ ≡ out → Fed at s f out a s₁ out₁
   feed_9 l e es eo =
       let no = ne_eqb (length f) (2 * numbers_of_frame (record_of s)) (rw many at l) in
       record { answer = rw no e; state = rw no es; buffer = rw no eo }
 
   module _ (l : length f ≡ 2 * m) where
-    pub feed_3 : {s₁ out₁ : List ℕ} {a : Answer} → length out < 32 → a ≡ NoRoom → s₁ ≡ s → out₁ ≡ out → Fed at s f out a s₁ out₁
+    pub feed_3 : {s₁ out₁ : List ℕ} {a : Answer} → length out < 32 → a ≡ Err NoRoom → s₁ ≡ s → out₁ ≡ out → Fed at s f out a s₁ out₁
     feed_3 r e es eo =
         let fits = eq-eqb (length f) (2 * numbers_of_frame (record_of s)) (rw many at l) in
         let no = lt-leb 32 (length out) r in
@@ -77,7 +78,7 @@ module _
   the_state : s₁ ≡ with_kept (record_of s) at s f
   the_state = put ∙ ap (λ (k : ℕ). kept frames k at s (numbers_of f)) many
 
-  pub kept_10 : {out out₁ : List ℕ} {a : Answer} → w.count < 16 → a ≡ TooFewFrames → out₁ ≡ out → KeptFrame at s f out a s₁ out₁
+  pub kept_10 : {out out₁ : List ℕ} {a : Answer} → w.count < 16 → a ≡ Err TooFewFrames → out₁ ≡ out → KeptFrame at s f out a s₁ out₁
   kept_10 {out} {out₁} {a} less e eo =
       let no : leb frames (with_frame (record_of s) (window_at s at) f).count ≡ false = ap (λ (v : Window). leb frames v.count) (sym the_window) ∙ lt-leb 16 w.count less in
       record { answer = rw no e; state = the_state; buffer = rw e eo }

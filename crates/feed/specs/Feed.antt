@@ -1,9 +1,8 @@
 -- Document 02, CR 1: what a frame is answered once settings are in force, and what it leaves. In these definitions r is the settings record in
 -- force, w the window as it was, and f the frame's bytes.
-use Rattle.std.specs.Prelude.{ℕ, ◌*◌, ◌≡◌, List, Bool, cond, eqb, leb, ℤ, length, take}
-use Rattle.answers.specs.declared.Answer.{Answer}
-use Rattle.answers.specs.declared.Answer.TheVariants.{Done, NoRoom, OtherFrameLength, TooFewFrames}
-use Rattle.answers.specs.Answers.{if_done}
+use Rattle.std.specs.Prelude.{ℕ, ◌*◌, ◌≡◌, List, Bool, cond, eqb, leb, ℤ, length, take, Ok, Err}
+use Rattle.answers.specs.declared.Refusal.TheVariants.{NoRoom, OtherFrameLength, TooFewFrames}
+use Rattle.answers.specs.Answers.{Answer, if_done}
 use Rattle.samples.specs.Window.{frames, channels, numbers_of, first_missing}
 use Rattle.stream.specs.declared.Window.{Window}
 use Rattle.stream.specs.Window.{newest_part, moved_on}
@@ -23,7 +22,7 @@ fits_frame r f = eqb (length f) (2 * numbers_of_frame r)
 
 -- "Order 1, 9, 3, 10, 4. The first three keep nothing": here 9 and 3. Done where the frame is kept. Refusal 3: room below 32 bytes.
 abbrev pub keeps : List ℕ → List ℕ → List ℕ → Answer
-keeps r f out = cond (fits_frame r f) (cond (leb decision_length (length out)) Done NoRoom) OtherFrameLength
+keeps r f out = cond (fits_frame r f) (cond (leb decision_length (length out)) (Ok tt) (Err NoRoom)) (Err OtherFrameLength)
 
 -- "moved on by one frame"
 abbrev pub with_frame : List ℕ → Window → List ℕ → Window
@@ -36,7 +35,7 @@ newest_frames r w f = newest_part frames (numbers_of_frame r) (with_frame r w f)
 -- Refusal 10: "fewer than 16 frames yet (the frame is kept)". From 16 on the answer is the one "that document 01's call gives for these 16
 -- frames": refusal 4, at the index of the first missing number in them, or done.
 abbrev pub kept_answer : List ℕ → Window → List ℕ → Answer
-kept_answer r w f = cond (leb frames (with_frame r w f).count) (of_found (first_missing (newest_frames r w f))) TooFewFrames
+kept_answer r w f = cond (leb frames (with_frame r w f).count) (of_found (first_missing (newest_frames r w f))) (Err TooFewFrames)
 
 -- All of the order from 9 on.
 abbrev pub frame_answer : List ℕ → Window → List ℕ → List ℕ → Answer

@@ -6,9 +6,9 @@ use mathlib.Core.Bool.{Bool, true, false, cond}
 use borrow.Author.Tests.{eq-eqb, ne_eqb, le-leb, lt-leb}
 use lib.IntN.{ℤ}
 use lib.ListN.{length}
-use Rattle.answers.specs.declared.Answer.{Answer}
-use Rattle.answers.specs.Answers.{given_back, is_done}
-use Rattle.answers.specs.declared.Answer.TheVariants.{NoSettings, NoRelay}
+use Rattle.std.specs.Prelude.{Err}
+use Rattle.answers.specs.Answers.{Answer, given_back, is_done}
+use Rattle.answers.specs.declared.Refusal.TheVariants.{NoSettings, NoRelay}
 use Rattle.answers.proofs.Numbers.{done_is}
 use Rattle.lent.specs.Lent.{over}
 use Rattle.samples.specs.Window.{window_length}
@@ -81,11 +81,11 @@ module _ {s e after : List ℕ} {n : ℕ} where
 
 -- a record that counts is in range
 module _ {r : List ℕ} {v : Answer} {b : Bool} where
-  pub counts : v ≡ entry.of_stored (verdict r) NoSettings → b ≡ is_done v → b ≡ true → Ranges r
-  counts f d y = in_range r (stored_done (verdict r) NoSettings refl (sym f ∙ done_is v (sym d ∙ y)))
+  pub counts : v ≡ entry.of_stored (verdict r) (Err NoSettings) → b ≡ is_done v → b ≡ true → Ranges r
+  counts f d y = in_range r (stored_done (verdict r) (Err NoSettings) refl (sym f ∙ done_is v (sym d ∙ y)))
 
 module _ {s out after : List ℕ} {w : List ℤ} where
-  pub decide_17 : (length s ≡ state_length → ⊥) → after ≡ out → DecidedNumbers s w out NoRelay after
+  pub decide_17 : (length s ≡ state_length → ⊥) → after ≡ out → DecidedNumbers s w out (Err NoRelay) after
   decide_17 l k = let t = ne_eqb (length s) state_length l in record { answer = rw t; buffer = rw t k }
 
   module _ {a v : Answer} {b : Bool} (l : length s ≡ state_length) (f : v ≡ in_force s) (d : b ≡ is_done v) where

@@ -7,7 +7,7 @@ use contract.Lifetimes.{Lfts}
 use denote.Bor.{Bor}
 use denote.MutBor.{MutBor}
 use lib.IntN.{ℤ}
-use Rattle.answers.specs.declared.Answer.{Answer}
+use Rattle.answers.specs.Answers.{Answer}
 use Rattle.samples.specs.Window.{window_length}
 use Rattle.gorsepetal.specs.Calls.{window_bytes, Unchanged, Proposed, Confirmed, ReadBack, DecidedNumbers, Decided, Fed}
 use Rattle.gorsepetal.proofs.gorsepetal_propose.Reads as propose

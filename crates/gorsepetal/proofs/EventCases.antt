@@ -6,8 +6,7 @@ use mathlib.Core.Bool.{Bool, true, false}
 use native.Mathlib.Omega.{arith}
 use borrow.Author.Tests.{eq-eqb, ne_eqb, eqb-true}
 use lib.ListN.{length, take, drop}
-use Rattle.answers.specs.declared.Answer.{Answer}
-use Rattle.answers.specs.Answers.{given_back}
+use Rattle.answers.specs.Answers.{Answer, given_back}
 use Rattle.lent.specs.Bytes.{Every, Byte}
 use Rattle.lent.proofs.Every.{every_append, every_take, every_drop}
 use Rattle.samples.specs.Window.{channels}

@@ -3,7 +3,8 @@ use mathlib.Core.Path.{◌≡◌, refl, ap}
 use mathlib.Core.List.{List}
 use mathlib.Core.Bool.{Bool, true, false, cond, false≢true}
 use Prim.Native.Nat.{ℕ}
-use Rattle.answers.specs.declared.Answer.TheVariants.{Done, NoSettings, NoRelay}
+use Rattle.std.specs.Prelude.{Ok, Err}
+use Rattle.answers.specs.declared.Refusal.TheVariants.{NoSettings, NoRelay}
 use Rattle.answers.specs.Answers.{is_done}
 use Rattle.answers.proofs.Numbers.{done_is}
 use Rattle.settings.specs.declared.Checked.{Checked}
@@ -16,7 +17,7 @@ use Rattle.gorsepetal.specs.State.{settings_of}
 use Rattle.gorsepetal.specs.Calls.{is_relay, of_check, verdict, GoodRecord, in_force, ready}
 
 -- the verdict is done only where the check finds a good record
-found_good : (f : Checked) → of_check f ≡ Done → f ≡ Good
+found_good : (f : Checked) → of_check f ≡ Ok tt → f ≡ Good
 found_good Good t = refl
 found_good (Bad k) t = absurd (false≢true (ap is_done t))
 
@@ -27,6 +28,6 @@ in_range r a = ranges r (found_good (checked r) a)
 pub ready_good : (s : List ℕ) → is_done (ready s) ≡ true → GoodRecord (settings_of s).force
 ready_good s d = by_test (is_relay s) d
   where
-    by_test : (b : Bool) → is_done (cond b (in_force s) NoRelay) ≡ true → GoodRecord (settings_of s).force
-    by_test true d = stored_done (verdict (settings_of s).force) NoSettings refl (done_is (in_force s) d)
+    by_test : (b : Bool) → is_done (cond b (in_force s) (Err NoRelay)) ≡ true → GoodRecord (settings_of s).force
+    by_test true d = stored_done (verdict (settings_of s).force) (Err NoSettings) refl (done_is (in_force s) d)
     by_test false d = absurd (false≢true d)

@@ -10,8 +10,7 @@ use lib.Dec.{eqb}
 use lib.IntN.{ℤ}
 use lib.ListN.{length, take}
 use lib.Seq.{length-take-le}
-use Rattle.answers.specs.declared.Answer.{Answer}
-use Rattle.answers.specs.Answers.{given_back, is_done}
+use Rattle.answers.specs.Answers.{Answer, given_back, is_done}
 use Rattle.samples.specs.Window.{numbers_of}
 use Rattle.samples.specs.Sizes.{count}
 use Rattle.samples.proofs.Bytes.{numbers_length, count_window, count_held}

@@ -1,8 +1,7 @@
 -- Document 01, "Numbers given back", and document 02, CR 1: what each call answers and leaves, for every input, good or bad.
-use Rattle.std.specs.Prelude.{ℕ, ◌*◌, ◌≡◌, List, Bool, cond, ℤ, length, eqb, leb}
-use Rattle.answers.specs.declared.Answer.{Answer}
-use Rattle.answers.specs.declared.Answer.TheVariants.{Done, NoSettings, NoRoom, OutOfRange, NoRelay}
-use Rattle.answers.specs.Answers.{given_back, if_done}
+use Rattle.std.specs.Prelude.{ℕ, ◌*◌, ◌≡◌, List, Bool, cond, ℤ, length, eqb, leb, Ok, Err}
+use Rattle.answers.specs.declared.Refusal.TheVariants.{NoSettings, NoRoom, OutOfRange, NoRelay}
+use Rattle.answers.specs.Answers.{Answer, given_back, if_done}
 use Rattle.lent.specs.Lent.{over}
 use Rattle.settings.specs.declared.Checked.{Checked}
 use Rattle.settings.specs.declared.Checked.TheVariants.{Good, Bad}
@@ -21,8 +20,8 @@ is_relay s = eqb (length s) state_length
 
 -- Refusal 6: a field out of range, at its offset.
 abbrev pub of_check : Checked → Answer
-of_check Good = Done
-of_check (Bad k) = OutOfRange k
+of_check Good = Ok tt
+of_check (Bad k) = Err (OutOfRange k)
 
 -- What propose answers to a record of 32 bytes.
 abbrev pub verdict : List ℕ → Answer
@@ -31,11 +30,11 @@ verdict r = of_check (checked r)
 -- A good record: the table's verdict on it, every rule kept. The length is asked for apart, because a byte past the end would read as 0: an
 -- entry of another length is refused with 5, and a stored record has the 32 bytes that the state has for it.
 abbrev pub GoodRecord : List ℕ → Type 0
-GoodRecord r = verdict r ≡ Done
+GoodRecord r = verdict r ≡ Ok tt
 
 -- "Propose: 5, 6."
 abbrev pub propose_answer : List ℕ → List ℕ → Answer
-propose_answer s e = cond (is_relay s) (entry.propose_answer (verdict e) e) NoRelay
+propose_answer s e = cond (is_relay s) (entry.propose_answer (verdict e) e) (Err NoRelay)
 
 abbrev pub propose_state : List ℕ → List ℕ → List ℕ
 propose_state s e = cond (is_relay s) (with_settings s (entry.proposed (verdict e) (settings_of s) e)) s
@@ -45,7 +44,7 @@ abbrev pub standing : List ℕ → Answer
 standing s = entry.standing (verdict (settings_of s).pending)
 
 abbrev pub confirm_answer : List ℕ → List ℕ → Answer
-confirm_answer s e = cond (is_relay s) (entry.confirm_answer (standing s) (settings_of s) e) NoRelay
+confirm_answer s e = cond (is_relay s) (entry.confirm_answer (standing s) (settings_of s) e) (Err NoRelay)
 
 -- The pair after it; and document 02, CR 1: "A confirmation answered 0 empties" the window.
 abbrev pub confirmed_pair : List ℕ → List ℕ → List ℕ
@@ -56,15 +55,15 @@ confirm_state s e = cond (is_relay s) (if_done (entry.confirm_answer (standing s
 
 -- Refusal 1: no settings in force. It goes by the verdict on what is stored, too.
 abbrev pub in_force : List ℕ → Answer
-in_force s = entry.of_stored (verdict (settings_of s).force) NoSettings
+in_force s = entry.of_stored (verdict (settings_of s).force) (Err NoSettings)
 
 -- Refusals 17 and 1, which stand first in read-back, in decide and in feed.
 abbrev pub ready : List ℕ → Answer
-ready s = cond (is_relay s) (in_force s) NoRelay
+ready s = cond (is_relay s) (in_force s) (Err NoRelay)
 
 -- "Read-back: 1, 3." Refusal 3: room below 32 bytes.
 abbrev pub read_back_answer : List ℕ → List ℕ → Answer
-read_back_answer s out = if_done (ready s) (cond (leb record_length (length out)) Done NoRoom) (ready s)
+read_back_answer s out = if_done (ready s) (cond (leb record_length (length out)) (Ok tt) (Err NoRoom)) (ready s)
 
 -- "Read-back writes the 32 bytes of the record in force" at the front of the lent buffer; "later bytes stay".
 abbrev pub read_back_out : List ℕ → List ℕ → List ℕ

@@ -1,9 +1,8 @@
 -- Document 02, CR 5: what the calls that read and write event files answer and leave, for every input, good or bad. In these definitions s is the
 -- relay's state, r the reader's slice, p the piece that is lent.
-use Rattle.std.specs.Prelude.{ℕ, ◌≡◌, List, [], ◌∷◌, Bool, cond, ◌&&◌}
-use Rattle.answers.specs.declared.Answer.{Answer}
-use Rattle.answers.specs.declared.Answer.TheVariants.{Done, NoRelay}
-use Rattle.answers.specs.Answers.{given_back}
+use Rattle.std.specs.Prelude.{ℕ, ◌≡◌, List, [], ◌∷◌, Bool, cond, ◌&&◌, Ok, Err}
+use Rattle.answers.specs.declared.Refusal.TheVariants.{NoRelay}
+use Rattle.answers.specs.Answers.{Answer, given_back}
 use Rattle.records.specs.Record.{narrow, frame_in}
 use Rattle.records.specs.Writer.{write_answer, write_out}
 use Rattle.files.specs.Reader.{answer_of, opened, refusal, Outcome, Stopped, More, Whole, read_outcome, end_answer}
@@ -12,7 +11,7 @@ use Rattle.gorsepetal.specs.Calls.{is_relay, feed_answer, feed_state, feed_out}
 
 -- "The caller says how many ends and status channels there are." Refusals 17 and 13.
 abbrev pub open_answer : (r : List ℕ) (ends status : ℕ) → Answer
-open_answer r ends status = cond (is_reader r) (refusal (opened (narrow ends status))) NoRelay
+open_answer r ends status = cond (is_reader r) (refusal (opened (narrow ends status))) (Err NoRelay)
 
 abbrev pub open_left : (r : List ℕ) (ends status : ℕ) → List ℕ
 open_left r ends status = cond (is_reader r) (opened_bytes ends status) r
@@ -29,7 +28,7 @@ pub record EventsWanted (r : List ℕ) (n : ℕ) : Type 0 where
 -- feed answers to the record's frame, and leaves.
 abbrev pub answer_by : Outcome → (s out : List ℕ) → Answer
 answer_by (Stopped e) s out = answer_of e
-answer_by More s out = Done
+answer_by More s out = Ok tt
 answer_by (Whole sh g) s out = feed_answer s (frame_in sh.ends g) out
 
 abbrev pub state_by : Outcome → (s out : List ℕ) → List ℕ
@@ -50,7 +49,7 @@ abbrev pub piece_outcome : (r p : List ℕ) → Outcome
 piece_outcome r p = read_outcome (reader_of r) p
 
 abbrev pub read_answer : (s r p out : List ℕ) → Answer
-read_answer s r p out = cond (both_lent s r) (answer_by (piece_outcome r p) s out) NoRelay
+read_answer s r p out = cond (both_lent s r) (answer_by (piece_outcome r p) s out) (Err NoRelay)
 
 abbrev pub read_state : (s r p out : List ℕ) → List ℕ
 read_state s r p out = cond (both_lent s r) (state_by (piece_outcome r p) s out) s
@@ -78,7 +77,7 @@ handed s r p = cond (both_lent s r) (handed_by (piece_outcome r p)) []
 
 -- Refusals 17 and 11, and that which ended the reading.
 abbrev pub close_answer : (r : List ℕ) → Answer
-close_answer r = cond (is_reader r) (end_answer (reader_of r)) NoRelay
+close_answer r = cond (is_reader r) (end_answer (reader_of r)) (Err NoRelay)
 
 abbrev pub close_left : (r : List ℕ) → List ℕ
 close_left r = cond (is_reader r) (end_left r) r

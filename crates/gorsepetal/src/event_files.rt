@@ -3,7 +3,7 @@
 ghost use Rattle.gorsepetal.specs.Calls.{Unchanged};
 ghost use Rattle.gorsepetal.specs.EventFiles.{EventsOpened, EventsWanted, EventsRead, EventsEnded, EventsWritten};
 
-use answers::Answer;
+use answers::{Answer, Refusal};
 use events::Step;
 
 // Puts a reader at the start of a file with so many ends and status channels.
@@ -20,6 +20,27 @@ pub fn gorsepetal_events_wanted(reader: &[u8]) -> u64
     events::wanted(reader) as u64
 }
 
+fn read(state: &mut [u8], reader: &mut [u8], bytes: &[u8], out: &mut [u8]) -> Answer
+    ensures answer { result ≡ read_answer state.old reader.old bytes.now out.old }
+    ensures state { state.new ≡ read_state state.old reader.old bytes.now out.old }
+    ensures reader { reader.new ≡ read_reader state.old reader.old bytes.now }
+    ensures buffer { out.new ≡ read_out state.old reader.old bytes.now out.old }
+{
+    if state.len() != crate::STATE_LENGTH {
+        return Err(Refusal::NoRelay);
+    }
+    let Ok(reader) = <&mut [u8; events::LENGTH]>::try_from(reader) else {
+        return Err(Refusal::NoRelay);
+    };
+    match events::read(reader, bytes)? {
+        Step::Taken => Ok(()),
+        Step::Whole => {
+            let to = events::frame_end(reader);
+            crate::feed(state, &reader[events::FRAME..to], out)
+        }
+    }
+}
+
 // A piece of the file: as many of its bytes are taken as are wanted. Where a record is whole now, its frame is fed.
 pub fn gorsepetal_events_read(
     state: &mut [u8],
@@ -29,21 +50,7 @@ pub fn gorsepetal_events_read(
 ) -> u64
     ensures { EventsRead state.old reader.old bytes.now out.old result state.new reader.new out.new × Unchanged bytes.entry.now bytes.exit.now }
 {
-    if state.len() != crate::STATE_LENGTH {
-        return answers::given_back(Answer::NoRelay);
-    }
-    if reader.len() != events::LENGTH {
-        return answers::given_back(Answer::NoRelay);
-    }
-    let step = events::read(reader, bytes);
-    match step {
-        Step::Ended(refused) => answers::given_back(refused),
-        Step::Taken => answers::given_back(Answer::Done),
-        Step::Whole => {
-            let to = events::frame_end(reader);
-            crate::gorsepetal_feed(state, &reader[events::FRAME..to], out)
-        }
-    }
+    answers::given_back(read(state, reader, bytes, out))
 }
 
 // The end of the file: whether it ends between records.

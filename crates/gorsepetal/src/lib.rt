@@ -11,8 +11,8 @@ ghost use Rattle.gorsepetal.specs.Calls.{verdict, in_force, window_bytes, Unchan
 
 pub mod event_files;
 
-use answers::Answer;
-use settings::Checked;
+use answers::{Answer, Refusal};
+use settings::Settings;
 
 // The lengths that a caller needs. The state, a settings record and a decision, in bytes:
 pub const STATE_LENGTH: usize = WINDOW + stream::STORED_LENGTH;
@@ -39,104 +39,112 @@ fn propose_answer(r: &[u8]) -> Answer
     ensures { result ≡ propose_answer (verdict r.now) r.now }
 {
     if r.len() != RECORD_LENGTH {
-        return Answer::OtherEntryLength;
+        return Err(Refusal::OtherEntryLength);
     }
     match checking::check(r) {
-        Checked::Good => Answer::Done,
-        Checked::Bad(at) => Answer::OutOfRange(at),
+        Ok(()) => Ok(()),
+        Err(fault) => Err(Refusal::OutOfRange(fault.at)),
     }
 }
 
 // Whether a stored record counts: done if propose would accept it, else the refusal for an absent one.
-fn of_stored(r: &[u8], absent: Answer) -> Answer
+fn stored(r: &[u8], absent: Refusal) -> Answer
     requires { length r.now ≡ record_length }
-    ensures { result ≡ of_stored (verdict r.now) absent }
+    ensures { result ≡ of_stored (verdict r.now) (Err absent) }
 {
-    if answers::is_done(propose_answer(r)) {
-        Answer::Done
-    } else {
-        absent
+    match propose_answer(r) {
+        Ok(()) => Ok(()),
+        Err(_) => Err(absent),
     }
 }
 
-// Whether a record is in force in a relay: done, or the refusal where none is.
-fn in_force(state: &[u8]) -> Answer
-    requires { length state.now ≡ state_length }
-    ensures { result ≡ in_force state.now }
+// The record in force, to go by; or the refusal where this is no relay, or none is in force.
+fn in_force(state: &[u8]) -> Result<Settings<'_>, Refusal>
+    ensures { InForce state.now result }
 {
-    of_stored(&state[MAIN..PENDING], Answer::NoSettings)
+    if state.len() != STATE_LENGTH {
+        return Err(Refusal::NoRelay);
+    }
+    let record = &state[MAIN..PENDING];
+    stored(record, Refusal::NoSettings)?;
+    Ok(Settings { record })
+}
+
+// The calls, each with the answer as a result; those that C gets give its number back.
+
+fn propose(state: &mut [u8], entry: &[u8]) -> Answer
+    ensures answer { result ≡ propose_answer state.old entry.now }
+    ensures state { state.new ≡ propose_state state.old entry.now }
+{
+    if state.len() != STATE_LENGTH {
+        return Err(Refusal::NoRelay);
+    }
+    entry::propose(state, MAIN, entry, propose_answer(entry))
 }
 
 // A first entry: it becomes pending if it is good.
 pub fn gorsepetal_propose(state: &mut [u8], entry: &[u8]) -> u64
     ensures { Proposed state.old entry.now result state.new × Unchanged entry.entry.now entry.exit.now }
 {
+    answers::given_back(propose(state, entry))
+}
+
+fn confirm(state: &mut [u8], entry: &[u8]) -> Answer
+    ensures answer { result ≡ confirm_answer state.old entry.now }
+    ensures state { state.new ≡ confirm_state state.old entry.now }
+{
     if state.len() != STATE_LENGTH {
-        return answers::given_back(Answer::NoRelay);
+        return Err(Refusal::NoRelay);
     }
-    answers::given_back(entry::propose(state, MAIN, entry, propose_answer(entry)))
+    let standing = stored(&state[PENDING..MAIN_END], Refusal::NothingPending);
+    let answer = entry::confirm(state, MAIN, entry, standing);
+    if answer.is_ok() {
+        stream::clear(state, WINDOW);
+    }
+    answer
 }
 
 // A second entry: the pending record comes into force if this one is the same 32 bytes, and the window is empty then.
 pub fn gorsepetal_confirm(state: &mut [u8], entry: &[u8]) -> u64
     ensures { Confirmed state.old entry.now result state.new × Unchanged entry.entry.now entry.exit.now }
 {
-    if state.len() != STATE_LENGTH {
-        return answers::given_back(Answer::NoRelay);
+    answers::given_back(confirm(state, entry))
+}
+
+fn read_back(state: &[u8], out: &mut [u8]) -> Answer
+    ensures answer { result ≡ read_back_answer state.now out.old }
+    ensures buffer { out.new ≡ read_back_out state.now out.old }
+{
+    let in_force = in_force(state)?;
+    if out.len() < RECORD_LENGTH {
+        return Err(Refusal::NoRoom);
     }
-    let standing = of_stored(&state[PENDING..MAIN_END], Answer::NothingPending);
-    let answer = entry::confirm(state, MAIN, entry, standing);
-    if !answers::is_done(answer) {
-        return answers::given_back(answer);
-    }
-    stream::clear(state, WINDOW);
-    answers::given_back(answer)
+    lent::put(out, 0, in_force.record);
+    Ok(())
 }
 
 // The record in force, at the front of a lent buffer.
 pub fn gorsepetal_read_back(state: &[u8], out: &mut [u8]) -> u64
     ensures { ReadBack state.now out.old result out.new × Unchanged state.entry.now state.exit.now }
 {
-    if state.len() != STATE_LENGTH {
-        return answers::given_back(Answer::NoRelay);
-    }
-    let in_force = in_force(state);
-    if !answers::is_done(in_force) {
-        return answers::given_back(in_force);
-    }
-    if out.len() < RECORD_LENGTH {
-        return answers::given_back(Answer::NoRoom);
-    }
-    lent::put(out, 0, &state[MAIN..PENDING]);
-    answers::given_back(Answer::Done)
+    answers::given_back(read_back(state, out))
 }
 
 // How many bytes a window has by the record in force; 0 where none is.
 pub fn window_bytes(state: &[u8]) -> usize
     ensures { (result ≡ window_bytes state.now) × (result ≤ 2 * window_length 6) × Unchanged state.entry.now state.exit.now }
 {
-    if state.len() != STATE_LENGTH {
-        return 0;
+    match in_force(state) {
+        Ok(settings) => 2 * decision::window_length(settings),
+        Err(_) => 0,
     }
-    let in_force = in_force(state);
-    if !answers::is_done(in_force) {
-        return 0;
-    }
-    2 * decision::window_length(&state[MAIN..PENDING])
 }
 
 // The decision on a window of numbers, at the front of a lent buffer.
 pub fn decide(state: &[u8], window: &[i16], out: &mut [u8]) -> Answer
     ensures { DecidedNumbers state.now window.now out.old result out.new × Unchanged state.entry.now state.exit.now × Unchanged window.entry.now window.exit.now }
 {
-    if state.len() != STATE_LENGTH {
-        return Answer::NoRelay;
-    }
-    let in_force = in_force(state);
-    if !answers::is_done(in_force) {
-        return in_force;
-    }
-    decision::decide(&state[MAIN..PENDING], window, out)
+    decision::decide(in_force(state)?, window, out)
 }
 
 // The same on a window of big-endian bytes.
@@ -149,16 +157,18 @@ pub fn gorsepetal_decide(state: &[u8], samples: &[u8], out: &mut [u8]) -> u64
     answers::given_back(decide(state, &numbers[0..n], out))
 }
 
+fn feed(state: &mut [u8], frame: &[u8], out: &mut [u8]) -> Answer
+    ensures answer { result ≡ feed_answer state.old frame.now out.old }
+    ensures state { state.new ≡ feed_state state.old frame.now out.old }
+    ensures buffer { out.new ≡ feed_out state.old frame.now out.old }
+{
+    in_force(state)?;
+    feed::feed(state, WINDOW, frame, out)
+}
+
 // One frame of big-endian bytes: it is kept in the window, and the newest 16 frames are decided on.
 pub fn gorsepetal_feed(state: &mut [u8], frame: &[u8], out: &mut [u8]) -> u64
     ensures { Fed state.old frame.now out.old result state.new out.new × Unchanged frame.entry.now frame.exit.now }
 {
-    if state.len() != STATE_LENGTH {
-        return answers::given_back(Answer::NoRelay);
-    }
-    let in_force = in_force(state);
-    if !answers::is_done(in_force) {
-        return answers::given_back(in_force);
-    }
-    answers::given_back(feed::feed(state, WINDOW, frame, out))
+    answers::given_back(feed(state, frame, out))
 }
