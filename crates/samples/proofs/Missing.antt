@@ -10,8 +10,9 @@ use lib.IntN.{ℤ, pos, negsuc}
 use lib.ListN.{length}
 use Rattle.samples.specs.Window.{missing_mark, same, missing_from, first_missing}
 use Rattle.samples.specs.Order.{Missing, NoneMissing, Finds, FirstInOrder}
-use Rattle.samples.specs.declared.Found.{Found}
-use Rattle.samples.specs.declared.Found.TheVariants.{Nothing, At}
+use Rattle.std.specs.Prelude.{Option, None, Some}
+use Rattle.std.specs.List.{AllWithin, HoldsAt}
+use Rattle.std.specs.Option.{MatchOption}
 
 -- ---- the test of one number
 
@@ -25,9 +26,9 @@ unmarked x t e = true≢false (rw e at t)
 -- ---- the search finds what it has to
 
 -- what a search that counts from j has to find
-abbrev From : ℕ → List ℤ → Found → Type 0
-From j w (At k) = (j ≤ k) × Finds w (At (k - j))
-From j w Nothing = Finds w Nothing
+abbrev From : ℕ → List ℤ → Option ℕ → Type 0
+From j w (Some k) = (j ≤ k) × Finds w (Some (k - j))
+From j w None = Finds w None
 
 -- one present number more, in front
 more : (x : ℤ) (xs : List ℤ) (n : ℕ) → (x ≡ missing_mark → ⊥) → NoneMissing xs n → (k : ℕ) → k < suc n → Missing (x ∷ xs) k → ⊥
@@ -39,30 +40,30 @@ unfolding missing_from
 from j [] = λ k h m. not-suc-le-zero h
 from j (x ∷ xs) = by_test (same x missing_mark) refl (missing_from (suc j) xs) (from (suc j) xs)
   where
-    by_test : (b : Bool) → same x missing_mark ≡ b → (r : Found) → From (suc j) xs r → From j (x ∷ xs) (cond b (At j) r)
+    by_test : (b : Bool) → same x missing_mark ≡ b → (r : Option ℕ) → From (suc j) xs r → From j (x ∷ xs) (cond b (Some j) r)
     by_test true t r h =
         let z : j - j ≡ 0 = omega arith in
         (omega arith, rw z (omega arith, marked x t, λ k l m. not-suc-le-zero l))
-    by_test false t (At k) h =
+    by_test false t (Some k) h =
         let n : k - j ≡ suc (k - suc j) = omega (arith, h.0) in
         (omega (arith, h.0), rw n (omega (arith, h.1.0), h.1.1, more x xs (k - suc j) (unmarked x t) h.1.2))
-    by_test false t Nothing h = more x xs (length xs) (unmarked x t) h
+    by_test false t None h = more x xs (length xs) (unmarked x t) h
 
 -- `first_missing` finds what a search has to
 pub finds : (w : List ℤ) → Finds w (first_missing w)
 unfolding first_missing
 finds w = start (missing_from 0 w) (from 0 w)
   where
-    start : (r : Found) → From 0 w r → Finds w r
-    start Nothing h = h
-    start (At k) h = rw (sub-zero k) at h.1
+    start : (r : Option ℕ) → From 0 w r → Finds w r
+    start None h = h
+    start (Some k) h = rw (sub-zero k) at h.1
 
 -- the place that it gives is in the list, a missing number stands there, and none before
-pub first_at : (w : List ℤ) (k : ℕ) → first_missing w ≡ At k → (k < length w) × Missing w k × NoneMissing w k
+pub first_at : (w : List ℤ) (k : ℕ) → first_missing w ≡ Some k → (k < length w) × Missing w k × NoneMissing w k
 first_at w k e = subst (Finds w) e (finds w)
 
 -- where it gives none, none is missing
-pub first_nothing : (w : List ℤ) → first_missing w ≡ Nothing → NoneMissing w (length w)
+pub first_nothing : (w : List ℤ) → first_missing w ≡ None → NoneMissing w (length w)
 first_nothing w e = subst (Finds w) e (finds w)
 
 -- ---- and there is no other answer
@@ -72,15 +73,26 @@ no_earlier : (w : List ℤ) (k l : ℕ) → NoneMissing w k → Missing w l → 
 no_earlier w k l before there = le_of_suc-le-suc (lt_of_not-le (λ h. before l h there))
 
 -- two answers that fit are one
-one : (w : List ℤ) (r s : Found) → Finds w r → Finds w s → r ≡ s
-one w Nothing Nothing g h = refl
-one w Nothing (At l) g h = absurd (g l h.0 h.1)
-one w (At k) Nothing g h = absurd (h k g.0 g.1)
-one w (At k) (At l) g h = ap At (le_antisymm (no_earlier w k l g.2 h.1) (no_earlier w l k h.2 g.1))
+one : (w : List ℤ) (r s : Option ℕ) → Finds w r → Finds w s → r ≡ s
+one w None None g h = refl
+one w None (Some l) g h = absurd (g l h.0 h.1)
+one w (Some k) None g h = absurd (h k g.0 g.1)
+one w (Some k) (Some l) g h = ap Some (le_antisymm (no_earlier w k l g.2 h.1) (no_earlier w l k h.2 g.1))
 
 -- whatever fits is what `first_missing` gives
-pub is_first : (w : List ℤ) (r : Found) → Finds w r → r ≡ first_missing w
+pub is_first : (w : List ℤ) (r : Option ℕ) → Finds w r → r ≡ first_missing w
 is_first w r h = one w r (first_missing w) h (finds w)
+
+-- where a search finds the first number for which the test holds, that is it
+abbrev Present : ℤ → Type 0
+Present x = x ≡ missing_mark → ⊥
+
+pub is_found :
+    (w : List ℤ) (r : Option ℕ) →
+    MatchOption r (AllWithin Present w 0 (length w)) (λ i. (i < length w) × HoldsAt (λ x. x ≡ missing_mark) w i × AllWithin Present w 0 i) →
+    r ≡ first_missing w
+is_found w None h = is_first w None (λ k l. h k (pos 0) (omega arith) l)
+is_found w (Some i) h = is_first w (Some i) (h.0, h.1 (pos 0), λ k l. h.2 k (pos 0) (omega arith) l)
 
 -- ---- frame order, then channel order
 
@@ -89,7 +101,7 @@ pub earlier : (m g d f : ℕ) → g < f → d < m → g * m + d < f * m
 earlier m g d f h l = omega (arith, mul-le-mul_right m h)
 
 -- the place that it gives, as a frame and a channel
-pub first_in_order : (m : ℕ) (w : List ℤ) (f c : ℕ) → c < m → first_missing w ≡ At (f * m + c) → FirstInOrder m w f c
+pub first_in_order : (m : ℕ) (w : List ℤ) (f c : ℕ) → c < m → first_missing w ≡ Some (f * m + c) → FirstInOrder m w f c
 first_in_order m w f c h e =
     let p = first_at w (f * m + c) e in
     record {

@@ -1,8 +1,6 @@
 -- Document 01, "Numbers given back": what "the first missing number in frame order, then channel order" means.
-use Rattle.std.specs.Prelude.{ℕ, ◌+◌, ◌*◌, ◌<◌, ◌≡◌, List, ℤ, pos, length, get_or}
+use Rattle.std.specs.Prelude.{ℕ, ◌+◌, ◌*◌, ◌<◌, ◌≡◌, List, ℤ, pos, length, get_or, Option, None, Some}
 use Rattle.samples.specs.Window.{missing_mark}
-use Rattle.samples.specs.declared.Found.{Found}
-use Rattle.samples.specs.declared.Found.TheVariants.{Nothing, At}
 
 -- The number at k is missing.
 abbrev pub Missing : List ℤ → ℕ → Type 0
@@ -13,9 +11,9 @@ abbrev pub NoneMissing : List ℤ → ℕ → Type 0
 NoneMissing w n = (k : ℕ) → k < n → Missing w k → ⊥
 
 -- What a search of a list has to find: the missing number that has none before it, or nothing where none is missing.
-abbrev pub Finds : List ℤ → Found → Type 0
-Finds w (At k) = (k < length w) × Missing w k × NoneMissing w k
-Finds w Nothing = NoneMissing w (length w)
+abbrev pub Finds : List ℤ → Option ℕ → Type 0
+Finds w (Some k) = (k < length w) × Missing w k × NoneMissing w k
+Finds w None = NoneMissing w (length w)
 
 -- In frames of m channels: channel c of frame f is missing, none of an earlier frame is, and none of an earlier channel of that frame.
 pub record FirstInOrder (m : ℕ) (w : List ℤ) (f c : ℕ) : Type 0 where

@@ -1,8 +1,6 @@
 -- Document 01, "Window and phasors": how many numbers a window has, how bytes hold them, and the first that is missing.
-use Rattle.std.specs.Prelude.{ℕ, suc, ◌+◌, ◌*◌, ◌≡◌, Bool, false, cond, List, [], ◌∷◌, eqb, ℤ, pos, negsuc, length}
+use Rattle.std.specs.Prelude.{ℕ, suc, ◌+◌, ◌*◌, ◌≡◌, Bool, false, cond, List, [], ◌∷◌, eqb, ℤ, pos, negsuc, length, Option, None, Some}
 use Rattle.whole.specs.TwosComplement.{signed}
-use Rattle.samples.specs.declared.Found.{Found}
-use Rattle.samples.specs.declared.Found.TheVariants.{Nothing, At}
 
 -- "16 frames in time order".
 abbrev pub frames : ℕ
@@ -38,10 +36,10 @@ same (negsuc a) (pos b) = false
 same (negsuc a) (negsuc b) = eqb a b
 
 -- The first missing number of a list, counted from k.
-unfoldable pub missing_from : ℕ → List ℤ → Found
-missing_from k [] = Nothing
-missing_from k (x ∷ xs) = cond (same x missing_mark) (At k) (missing_from (suc k) xs)
+unfoldable pub missing_from : ℕ → List ℤ → Option ℕ
+missing_from k [] = None
+missing_from k (x ∷ xs) = cond (same x missing_mark) (Some k) (missing_from (suc k) xs)
 
 -- Refusal 4: "index in the slice" of the first missing number.
-unfoldable pub first_missing : List ℤ → Found
+unfoldable pub first_missing : List ℤ → Option ℕ
 first_missing w = missing_from 0 w

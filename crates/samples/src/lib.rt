@@ -17,13 +17,6 @@ pub const LONGEST: usize = 336;
 // The number that stands where a sample is missing.
 const MISSING: i16 = -32768;
 
-// What a search for a missing sample finds: nothing, or the first place of one.
-#[derive(Clone, Copy)]
-pub enum Found {
-    Nothing,
-    At(usize),
-}
-
 // How many numbers a frame has: three voltages, and three currents of each end.
 pub fn channels(ends: usize) -> usize
     requires { ends ≤ 6 }
@@ -101,23 +94,11 @@ fn none_missing(window: &[i16]) -> bool
 
 // The first missing sample of a window, frame by frame, and in a frame channel by channel. Where a first pass finds none missing, there is
 // no search.
-pub fn first_missing(window: &[i16], frames: usize, channels: usize) -> Found
-    requires { length window.now ≡ frames * channels }
+pub fn first_missing(window: &[i16]) -> Option<usize>
     ensures { result ≡ first_missing window.now }
 {
     if none_missing(window) {
-        return Found::Nothing;
+        return None;
     }
-    let mut found = Found::Nothing;
-    'search: for f in 0..frames {
-        for c in 0..channels {
-            let at = f * channels + c;
-            let x = window[at];
-            if x == MISSING {
-                found = Found::At(at);
-                break 'search;
-            }
-        }
-    }
-    found
+    window.iter().position(|&x| x == MISSING)
 }
