@@ -7,6 +7,8 @@ ghost use Rattle.settings.specs.Record.{field_at, signed_at};
 pub mod at; // the offsets by name
 pub mod fields; // the fields by name
 
+pub use fields::Settings;
+
 // How many bytes a record has; `entry` says the same of any record entered twice.
 pub const LENGTH: usize = 32;
 
