@@ -7,7 +7,6 @@ pub mod Size
 pub mod Machine
 pub mod TwosComplement
 pub mod Rounding
-pub mod Remainder
 pub mod Roots
 pub mod Calls
 pub mod WorkedRoot

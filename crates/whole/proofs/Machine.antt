@@ -1,18 +1,15 @@
--- What operations on i64 give, as facts about the numbers: tests, and the quotient toward zero.
+-- What operations on i64 give, as facts about the numbers.
 use mathlib.Core.Path.{◌≡◌}
 use mathlib.Core.Bool.{true, false}
-use Prim.Native.Nat.{suc, ◌/◌, ◌^◌, ◌<◌}
-use native.Mathlib.Nat.{div-le_self}
-use native.Mathlib.Omega.{arith}
-use lib.IntN.{ℤ, pos, negsuc}
-use lib.Dec.{not_T, ltb→lt}
-use lib.Signed.{◌≤ℤ◌, ◌<ℤ◌, le_z, lt_z, lt_z_no, le_z_yes, lt_z_yes, mag, quot_z}
+use Prim.Native.Nat.{◌^◌, ◌<◌}
+use lib.IntN.{ℤ}
+use lib.Dec.{not_T}
+use lib.Signed.{◌≤ℤ◌, ◌<ℤ◌, le_z, lt_z, lt_z_no, le_z_yes, lt_z_yes, mag}
 use borrow.Author.Tests.{not-true}
 use denote.Floats.{is_true}
 use mir.Syntax.{w64}
-use mir.Val.{SFits, to_z, of_z}
+use mir.Val.{to_z, of_z}
 use mir.Facts.{to_z-of_z}
-use Rattle.whole.proofs.Size.{neg_sizes}
 
 -- what the machine reads back of a number's bits
 abbrev pub Read : ℤ → ℤ
@@ -42,14 +39,3 @@ false_lt {x} {y} h = not-true (lt_z x y) (is_true _ (not_T (lt_z x y) (λ t. h (
 
 pub true_le : {x y : ℤ} → x ≤ℤ y → le_z x y ≡ true
 true_le h = is_true _ h.le
-
--- ---- division: a divisor above 0 is not 0 as bits, and a quotient toward zero is no larger than the dividend
-
-pub divisor : (d : ℤ) → pos 0 <ℤ d → 0 < of_z w64 d
-divisor (pos n) h = omega (arith, ltb→lt)
-divisor (negsuc n) h = absurd h.lt
-
-pub quot_fits : {s d : ℤ} → pos 0 <ℤ d → SFits w64 s → SFits w64 (quot_z s d)
-quot_fits {s = pos a} {d = pos b} h f = omega (arith, div-le_self a b)
-quot_fits {s = negsuc a} {d = pos b} h f = omega (arith, neg_sizes (suc a / b), div-le_self (suc a) b)
-quot_fits {d = negsuc b} h f = absurd h.lt

@@ -1,12 +1,13 @@
 -- Rounding by d, proved once over d: the rule of document 01 has exactly one number, `round_by` computes it,
 -- and how far off it is follows from `Near` alone.
-use mathlib.Core.Path.{◌≡◌}
+use mathlib.Core.Path.{◌≡◌, refl}
 use mathlib.Core.List.{[], ◌∷◌}
 use Prim.Native.Nat.{ℕ, ◌+◌, ◌/◌, ◌%◌, ◌≤◌, ◌<◌}
 use native.Mathlib.Nat.{div-add-mod, mod-lt}
 use native.Mathlib.Omega.{arith}
-use lib.IntN.{ℤ, pos, negsuc, ◌+ℤ◌, ◌-ℤ◌, ◌*ℤ◌}
-use lib.Signed.{◌≤ℤ◌, ◌<ℤ◌, shr_z}
+use lib.IntN.{ℤ, pos, negsuc, nat_abs, ◌+ℤ◌, ◌-ℤ◌, ◌*ℤ◌}
+use lib.Signed.{◌≤ℤ◌, ◌<ℤ◌, quot_z, shr_z}
+use Rattle.std.specs.Int.{int_div_euclid}
 use Rattle.whole.specs.Sizes.{Within}
 use Rattle.whole.specs.Round.{Rounded, Near, round_by}
 use Rattle.whole.proofs.Difference.{diff, d_le, d_lt}
@@ -16,17 +17,27 @@ use Rattle.whole.proofs.Size.{abs_of}
 
 -- ---- the quotient rounded down: d times it is at most z, and d times one more is above
 
-pub floor : (z : ℤ) (d : ℕ) → 0 < d → ((pos d *ℤ shr_z z d) ≤ℤ z) × (z <ℤ (pos d *ℤ shr_z z d +ℤ pos d))
+floor : (z : ℤ) (d : ℕ) → 0 < d → ((pos d *ℤ shr_z z d) ≤ℤ z) × (z <ℤ (pos d *ℤ shr_z z d +ℤ pos d))
 floor (pos a) d p =
     let e = div-add-mod a d in let l = mod-lt a p in (d_le (search diff) (omega arith), d_lt (search diff) (omega arith))
 floor (negsuc a) d p =
     let e = div-add-mod a d in let l = mod-lt a p in (d_le (search diff) (omega arith), d_lt (search diff) (omega arith))
 
 -- d y is below d z + d only where y is at most z
-pub at_most : (d : ℕ) (y z : ℤ) → (pos d *ℤ y) <ℤ (pos d *ℤ z +ℤ pos d) → y ≤ℤ z
+at_most : (d : ℕ) (y z : ℤ) → (pos d *ℤ y) <ℤ (pos d *ℤ z +ℤ pos d) → y ≤ℤ z
 at_most d y z h = ≤_unless y z (λ k. false! (pos d ∷ y ∷ z ∷ []) (g_lt h ⊞ g_num d ⊠ g_lt k) (search quo depth 40) tt)
 
 -- ---- the rounded number
+
+-- half of d is added, and the quotient rounded down
+pub rounds : (x d : ℤ) → pos 0 <ℤ d → int_div_euclid (x +ℤ quot_z d (pos 2)) d ≡ round_by (nat_abs d) x
+unfolding round_by
+rounds x (pos n) h = down (x +ℤ pos (n / 2)) n
+  where
+    down : (z : ℤ) (n : ℕ) → int_div_euclid z (pos n) ≡ shr_z z n
+    down (pos a) n = refl
+    down (negsuc a) n = refl
+rounds x (negsuc n) h = absurd h.lt
 
 -- whatever d is, d times it is near
 pub round_near : (d : ℕ) → 0 < d → (A : ℤ) → Near d A (round_by d A)

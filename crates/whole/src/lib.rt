@@ -2,31 +2,20 @@
 // yes and no as bits.
 #![tactic(auto)]
 
-ghost use Rattle.std.specs.Prelude.{◌≡◌, cond, [], ◌∷◌, ◌+◌, ◌*◌, ◌≤◌, ◌<◌, ◌^◌, pos, nat_abs, ◌-ℤ◌, ◌*ℤ◌, ◌<ℤ◌};
-ghost use Rattle.std.specs.Int.Signed.{shr_z};
+ghost use Rattle.std.specs.Prelude.{◌≡◌, [], ◌∷◌, ◌+◌, ◌*◌, ◌<◌, ◌^◌, pos, nat_abs, ◌<ℤ◌};
 ghost use Rattle.whole.specs.Sizes.{Within};
 ghost use Rattle.whole.specs.Round.{round_by};
 ghost use Rattle.whole.specs.Root.{floor_root, root_up};
 ghost use Rattle.whole.specs.Bits.{bits};
 ghost use Rattle.whole.specs.TwosComplement.{signed, unsigned};
 
-// What is left of s once d has been taken off as often as it goes in: from 0 to d - 1, below zero too. The machine's own remainder has the
-// sign of s.
-fn floor_rem(s: i64, d: i64) -> i64
-    requires { pos 0 <ℤ d }
-    ensures { result ≡ s -ℤ d *ℤ shr_z s (nat_abs d) }
-{
-    let r = s % d;
-    if r < 0 { r + d } else { r }
-}
-
-// x rounded by d: how many times d goes into x, to the nearest whole number; a tie goes up.
+// x rounded by d: how many times d goes into x, to the nearest whole number; a tie goes up. `div_euclid` rounds down, also below
+// zero, where the machine's own quotient goes toward it.
 pub fn round_by(x: i64, d: i64) -> i64
     requires { (pos 0 <ℤ d) × Within (2 ^ 62) x × Within (2 ^ 61) d }
     ensures { result ≡ round_by (nat_abs d) x }
 {
-    let s = x + d / 2;
-    (s - floor_rem(s, d)) / d
+    (x + d / 2).div_euclid(d)
 }
 
 // The root rounded down: a magnitude, from its square.
@@ -38,6 +27,8 @@ pub fn round_by(x: i64, d: i64) -> i64
 //
 // Each call asks the next one for the root of a quarter of its own number, cut to a whole one. After 32 quarters any number is zero, so
 // there are at most 33 calls. Adding one is enough, because twice the root of the quarter is at most the root, and two more is above it.
+//
+// It stands in place of the library's `isqrt` because document 02's CR 3 asks for this very function, and docs/HAND-CHECKS.md prints it.
 pub fn floor_root(x: u64) -> u64
     ensures { result ≡ floor_root x }
 {
@@ -79,19 +70,11 @@ pub fn unsigned(z: i16) -> u16
     }
 }
 
-// One bit in front of others, which then weigh twice as much.
-fn bit_before(x: bool, rest: u8) -> u8
-    requires { rest ≤ 127 }
-    ensures { (result ≡ cond x 1 0 + 2 * rest) × (result ≤ 1 + 2 * rest) }
-{
-    if x { 1 + 2 * rest } else { 2 * rest }
-}
-
 // Three bits: the first weighs 1, the second 2, the third 4.
 pub fn three_bits(a: bool, b: bool, c: bool) -> u8
     ensures { (result ≡ bits (a ∷ b ∷ c ∷ [])) × (result < 8) }
 {
-    bit_before(a, bit_before(b, bit_before(c, 0)))
+    u8::from(a) + 2 * u8::from(b) + 4 * u8::from(c)
 }
 
 // Three bits, and three above them.
