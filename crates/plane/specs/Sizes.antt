@@ -21,7 +21,7 @@ pub record Multiply (p q : Phasor) : Type 0 where
   pub both_fit : T (ltb (p_most * q_most + p_most * q_most) (2 ^ 63))
 
 -- All three phases.
-pub record AllInside (b : ℕ) (v : Phases) : Type 0 where
+pub record AllInside (b : ℕ) (v : Phases Phasor) : Type 0 where
   pub inside_a : Inside b v.a
   pub inside_b : Inside b v.b
   pub inside_c : Inside b v.c

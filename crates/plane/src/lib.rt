@@ -15,10 +15,10 @@ pub struct Phasor {
 
 // The same quantity in the three phases.
 #[derive(Clone, Copy)]
-pub struct Phases {
-    pub a: Phasor,
-    pub b: Phasor,
-    pub c: Phasor,
+pub struct Phases<T> {
+    pub a: T,
+    pub b: T,
+    pub c: T,
 }
 
 // p + q.
