@@ -15,7 +15,7 @@ use plane::Phasor;
 pub mod sequence; // 3V1, 3V2, 3I2
 
 // Which way a fault lies from the relay.
-#[derive(Clone, Copy)]
+#[derive(Clone, Copy, PartialEq, Eq)]
 pub enum Direction {
     None,
     Forward,
@@ -32,13 +32,15 @@ pub struct Bearing {
 }
 
 // The number of a direction in the decision record.
-pub fn number(d: Direction) -> u8
-    ensures { result ≡ direction_number d }
-{
-    match d {
-        Direction::None => 0,
-        Direction::Forward => 1,
-        Direction::Reverse => 2,
+impl From<Direction> for u8 {
+    ghost from_gives = { λ d n. n ≡ direction_number d };
+
+    fn from(d: Direction) -> u8 {
+        match d {
+            Direction::None => 0,
+            Direction::Forward => 1,
+            Direction::Reverse => 2,
+        }
     }
 }
 
@@ -46,11 +48,7 @@ pub fn number(d: Direction) -> u8
 pub fn is_forward(d: Direction) -> bool
     ensures { result ≡ is_forward d }
 {
-    match d {
-        Direction::None => false,
-        Direction::Forward => true,
-        Direction::Reverse => false,
-    }
+    d == Direction::Forward
 }
 
 // Whether 3I2 reaches its pickup.
