@@ -3,51 +3,48 @@
 
 ghost use Rattle.std.specs.Prelude.{◌≡◌, ◌≤◌, length};
 ghost use Rattle.plane.specs.Sizes.{AllInside, phasor_size};
-ghost use Rattle.samples.specs.Window.{window_length, first_missing};
+ghost use Rattle.samples.specs.Window.{window_length};
 ghost use Rattle.settings.specs.Record.{record_length};
-ghost use Rattle.settings.specs.Fields.{Ranges, ends};
+ghost use Rattle.settings.specs.Fields.{ends};
 ghost use Rattle.distance.specs.Sizes.{SixInside};
 ghost use Rattle.findings.specs.Sizes.{FindingsSized};
 ghost use Rattle.decision.specs.Decide.{Decided};
 ghost use Rattle.decision.specs.Decision.{asserting_bits, overreaching_bits, unbalanced_at, direction_at, findings, decision};
 
-use answers::Answer;
+use answers::{Answer, Refusal};
 use direction::Bearing;
-use distance::mho::{SixLoops, ZoneBits};
+use distance::mho::{SixLoops, Zones};
 use findings::Findings;
-use plane::Phases;
-use samples::Found;
+use plane::{Phases, Phasor};
+use settings::Settings;
 
 // How many bytes a decision has.
 pub const LENGTH: usize = findings::LENGTH;
 
 // How many numbers a window has, by a good settings record.
-pub fn window_length(s: &[u8]) -> usize
-    requires { Ranges s.now }
-    ensures { (result ≡ window_length (ends s.now)) × (result ≤ window_length 6) }
+pub fn window_length(s: Settings) -> usize
+    ensures { (result ≡ window_length (ends s.entry.bytes.now)) × (result ≤ window_length 6) }
 {
-    samples::FRAMES * samples::channels(settings::fields::ends(s) as usize)
+    samples::FRAMES * samples::channels(s.ends() as usize)
 }
 
 // Which of the six loops of end 1 assert in each zone, at the reaches in force. In the second zone none does where it is off.
-fn zones(s: &[u8], l: SixLoops) -> ZoneBits
-    requires { Ranges s.now × SixInside l }
-    ensures { (result.first ≡ asserting_bits s.now l) × (result.second ≡ overreaching_bits s.now l) }
+fn zones(s: Settings, l: SixLoops) -> Zones<u8>
+    requires { SixInside l }
+    ensures { (result.first ≡ asserting_bits s.entry.bytes.now l) × (result.second ≡ overreaching_bits s.entry.bytes.now l) }
 {
-    let reach = settings::fields::reach(s);
-    let second_reach = settings::fields::second_reach(s);
-    let seen = distance::mho::zone_bits(s, reach, second_reach, l);
-    let first = seen.first;
+    let second_reach = s.second_reach();
+    let seen = distance::mho::zone_bits(s, s.reach(), second_reach, l);
     if second_reach == 0 {
-        return ZoneBits { first, second: 0 };
+        return Zones { second: 0, ..seen };
     }
     seen
 }
 
 // Whether 3I2 reaches its pickup, and the direction of a fault, from the voltages and the currents of end 1.
-fn bearing(s: &[u8], v: Phases, i: Phases) -> Bearing
-    requires { Ranges s.now × AllInside phasor_size v × AllInside phasor_size i }
-    ensures { (result.unbalanced ≡ unbalanced_at s.now i) × (result.direction ≡ direction_at s.now v i) }
+fn bearing(s: Settings, v: Phases<Phasor>, i: Phases<Phasor>) -> Bearing
+    requires { AllInside phasor_size v × AllInside phasor_size i }
+    ensures { (result.unbalanced ≡ unbalanced_at s.entry.bytes.now i) × (result.direction ≡ direction_at s.entry.bytes.now v i) }
 {
     let v2 = direction::sequence::negative_sequence(v);
     let i2 = direction::sequence::negative_sequence(i);
@@ -55,11 +52,11 @@ fn bearing(s: &[u8], v: Phases, i: Phases) -> Bearing
 }
 
 // What is found in a window of the right length, by a good settings record.
-fn findings_in(s: &[u8], window: &[i16]) -> Findings
-    requires { Ranges s.now × (length window.now ≡ window_length (ends s.now)) }
-    ensures { (result ≡ findings s.now window.now) × FindingsSized result }
+fn findings_in(s: Settings, window: &[i16]) -> Findings
+    requires { length window.now ≡ window_length (ends s.bytes.now) }
+    ensures { (result ≡ findings s.entry.bytes.now window.now) × FindingsSized result }
 {
-    let ends = settings::fields::ends(s) as usize;
+    let ends = s.ends() as usize;
     let v = phasors::voltages(window, ends);
     let grid = phasors::currents(window, ends);
     let i = phasors::local(grid);
@@ -67,12 +64,14 @@ fn findings_in(s: &[u8], window: &[i16]) -> Findings
     let operating = differential::operating_bits(s, comparisons);
     let changes = differential::change::slopes_of_change(s, comparisons);
     let loops = distance::mho::loops(s, v, i);
-    let zones = zones(s, loops);
-    let asserting = zones.first;
-    let overreaching = zones.second;
-    let bearing = bearing(s, v, i);
-    let unbalanced = bearing.unbalanced;
-    let direction = bearing.direction;
+    let Zones {
+        first: asserting,
+        second: overreaching,
+    } = zones(s, loops);
+    let Bearing {
+        unbalanced,
+        direction,
+    } = bearing(s, v, i);
     let quadrilaterals = quadrilateral::of_fault(s, i, loops, direction);
     Findings {
         operating,
@@ -87,47 +86,36 @@ fn findings_in(s: &[u8], window: &[i16]) -> Findings
 }
 
 // The decision on a window of the right length, by a good settings record.
-fn decision(s: &[u8], window: &[i16]) -> [u8; LENGTH]
-    requires { Ranges s.now × (length window.now ≡ window_length (ends s.now)) }
-    ensures { result ≡ decision s.now window.now }
+fn decision(s: Settings, window: &[i16]) -> [u8; LENGTH]
+    requires { length window.now ≡ window_length (ends s.bytes.now) }
+    ensures { result ≡ decision s.entry.bytes.now window.now }
 {
     findings::bytes(findings_in(s, window))
 }
 
-// The first missing number of a window of the right length.
-fn first_missing(s: &[u8], window: &[i16]) -> Found
-    requires { Ranges s.now × (length window.now ≡ window_length (ends s.now)) }
-    ensures { result ≡ first_missing window.now }
-{
-    let channels = samples::channels(settings::fields::ends(s) as usize);
-    samples::first_missing(window, samples::FRAMES, channels)
-}
-
 // The decision on a window, at the front of a lent buffer, by a good settings record.
-fn decide_by(s: &[u8], window: &[i16], out: &mut [u8]) -> Answer
-    requires { Ranges s.now }
-    ensures { Decided s.now window.now out.old result out.new }
+fn decide_by(s: Settings, window: &[i16], out: &mut [u8]) -> Answer
+    ensures { Decided s.entry.bytes.now window.now out.old result out.new }
 {
     if window.len() != window_length(s) {
-        return Answer::OtherWindowLength;
+        return Err(Refusal::OtherWindowLength);
     }
     if out.len() < LENGTH {
-        return Answer::NoRoom;
+        return Err(Refusal::NoRoom);
     }
-    match first_missing(s, window) {
-        Found::At(k) => Answer::MissingSample(k as u16),
-        Found::Nothing => {
-            let record = decision(s, window);
-            lent::put(out, 0, &record);
-            Answer::Done
-        }
+    if let Some(k) = samples::first_missing(window) {
+        return Err(Refusal::MissingSample(k as u16));
     }
+    let record = decision(s, window);
+    lent::put(out, 0, &record);
+    Ok(())
 }
 
 // The same by a record of 32 bytes: a slice whose length the compiler knows, so that no byte's place is tested.
-pub fn decide(s: &[u8], window: &[i16], out: &mut [u8]) -> Answer
-    requires { Ranges s.now × (length s.now ≡ record_length) }
-    ensures { Decided s.now window.now out.old result out.new }
+pub fn decide(s: Settings, window: &[i16], out: &mut [u8]) -> Answer
+    requires { length s.bytes.now ≡ record_length }
+    ensures { Decided s.entry.bytes.now window.now out.old result out.new }
 {
-    decide_by(&s[0..settings::LENGTH], window, out)
+    let bytes = &s.bytes[0..settings::LENGTH];
+    decide_by(Settings { bytes }, window, out)
 }

@@ -10,8 +10,9 @@ ghost use Rattle.stream.specs.Stored.{stored_length, window_at, kept};
 ghost use Rattle.decision.specs.Decision.{decision_length};
 ghost use Rattle.feed.specs.Feed.{numbers_of_frame, record_of, KeptFrame, Fed};
 
-use answers::Answer;
+use answers::{Answer, Refusal};
 use samples::FRAMES;
+use settings::Settings;
 use stream::{FULL, Window};
 
 // The record in force lies at the front of the state.
@@ -23,11 +24,10 @@ const RECORD_END: usize = 32;
 const LONGEST_FRAME: usize = samples::LONGEST / FRAMES;
 
 // How many numbers a frame has, by a good settings record.
-fn frame_length(s: &[u8]) -> usize
-    requires { Ranges s.now }
-    ensures { (result ≡ numbers_of_frame s.now) × (result ≤ 21) }
+fn frame_length(s: Settings) -> usize
+    ensures { (result ≡ numbers_of_frame s.entry.bytes.now) × (result ≤ 21) }
 {
-    samples::channels(settings::fields::ends(s) as usize)
+    samples::channels(s.ends() as usize)
 }
 
 // The frame's bytes become numbers, which are kept in the window from `at` on. The window as it is now comes back.
@@ -50,7 +50,7 @@ fn kept(state: &mut [u8], at: usize, frame: &[u8], out: &mut [u8]) -> Answer
     let channels = frame_length(&state[RECORD..RECORD_END]);
     let window = keep_bytes(state, at, frame, channels);
     if window.count < FULL {
-        return Answer::TooFewFrames;
+        return Refusal::TooFewFrames;
     }
     let newest = window.numbers;
     let n = FRAMES * channels;
@@ -63,10 +63,10 @@ pub fn feed(state: &mut [u8], at: usize, frame: &[u8], out: &mut [u8]) -> Answer
     ensures { Fed at state.old frame.now out.old result state.new out.new }
 {
     if frame.len() != 2 * frame_length(&state[RECORD..RECORD_END]) {
-        return Answer::OtherFrameLength;
+        return Refusal::OtherFrameLength;
     }
     if out.len() < decision::LENGTH {
-        return Answer::NoRoom;
+        return Refusal::NoRoom;
     }
     kept(state, at, frame, out)
 }

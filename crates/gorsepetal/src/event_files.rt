@@ -1,7 +1,7 @@
 // What C calls, by way of gorsepetal_c, to read and to write event files (document 02, CR 5). The reader is a second lent state, beside the
 // relay's own.
 ghost use Rattle.gorsepetal.specs.Calls.{Unchanged};
-ghost use Rattle.gorsepetal.specs.EventFiles.{EventsOpened, EventsWanted, EventsRead, EventsEnded, EventsWritten};
+ghost use Rattle.gorsepetal.specs.EventFiles.{read_answer, read_state, read_reader, read_out, EventsOpened, EventsWanted, EventsRead, EventsEnded, EventsWritten};
 
 use answers::{Answer, Refusal};
 use events::Step;

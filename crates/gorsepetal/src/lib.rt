@@ -2,12 +2,12 @@
 // in force and then the pending one; and the window that frames are fed to.
 #![tactic(auto)]
 
-ghost use Rattle.std.specs.Prelude.{◌≡◌, ◌*◌, ◌≤◌, length};
+ghost use Rattle.std.specs.Prelude.{◌≡◌, ◌*◌, ◌≤◌, length, Ok, Err, IfOk, IfErr};
 ghost use Rattle.samples.specs.Window.{window_length};
 ghost use Rattle.entry.specs.Pair.{record_length};
-ghost use Rattle.entry.specs.Entry.{propose_answer, of_stored};
-ghost use Rattle.gorsepetal.specs.State.{state_length};
-ghost use Rattle.gorsepetal.specs.Calls.{verdict, in_force, window_bytes, Unchanged, Proposed, Confirmed, ReadBack, DecidedNumbers, Decided, Fed};
+ghost use Rattle.entry.specs.Entry as entry_rule;
+ghost use Rattle.gorsepetal.specs.State.{settings_of};
+ghost use Rattle.gorsepetal.specs.Calls.{verdict, ready, propose_answer, propose_state, confirm_answer, confirm_state, read_back_answer, read_back_out, window_bytes, feed_answer, feed_state, feed_out, Unchanged, Proposed, Confirmed, ReadBack, DecidedNumbers, Decided, Fed};
 
 pub mod event_files;
 
@@ -36,7 +36,7 @@ const WINDOW: usize = MAIN_END;
 // What propose answers to an entry. The length is tested here because the check wants 32 bytes; `entry::propose`, which takes any
 // verdict, tests it too.
 fn propose_answer(r: &[u8]) -> Answer
-    ensures { result ≡ propose_answer (verdict r.now) r.now }
+    ensures { result ≡ entry_rule.propose_answer (verdict r.now) r.now }
 {
     if r.len() != RECORD_LENGTH {
         return Err(Refusal::OtherEntryLength);
@@ -50,7 +50,7 @@ fn propose_answer(r: &[u8]) -> Answer
 // Whether a stored record counts: done if propose would accept it, else the refusal for an absent one.
 fn stored(r: &[u8], absent: Refusal) -> Answer
     requires { length r.now ≡ record_length }
-    ensures { result ≡ of_stored (verdict r.now) (Err absent) }
+    ensures { result ≡ entry_rule.of_stored (verdict r.now) (Err absent) }
 {
     match propose_answer(r) {
         Ok(()) => Ok(()),
@@ -60,14 +60,15 @@ fn stored(r: &[u8], absent: Refusal) -> Answer
 
 // The record in force, to go by; or the refusal where this is no relay, or none is in force.
 fn in_force(state: &[u8]) -> Result<Settings<'_>, Refusal>
-    ensures { InForce state.now result }
+    ensures good { IfOk result (λ s. (ready state.now ≡ Ok tt) × (s.bytes.now ≡ (settings_of state.now).force)) }
+    ensures none { IfErr result (λ refusal. ready state.now ≡ Err refusal) }
 {
     if state.len() != STATE_LENGTH {
         return Err(Refusal::NoRelay);
     }
-    let record = &state[MAIN..PENDING];
-    stored(record, Refusal::NoSettings)?;
-    Ok(Settings { record })
+    let bytes = &state[MAIN..PENDING];
+    stored(bytes, Refusal::NoSettings)?;
+    Ok(Settings { bytes })
 }
 
 // The calls, each with the answer as a result; those that C gets give its number back.
@@ -119,7 +120,7 @@ fn read_back(state: &[u8], out: &mut [u8]) -> Answer
     if out.len() < RECORD_LENGTH {
         return Err(Refusal::NoRoom);
     }
-    lent::put(out, 0, in_force.record);
+    lent::put(out, 0, in_force.bytes);
     Ok(())
 }
 
