@@ -3,7 +3,7 @@
 use Rattle.std.specs.Prelude.{ℕ, suc, ◌+◌, ◌≡◌, List, [], ◌∷◌, ◌++◌, cond, length, take, drop, get_or, eqb, Option, Some, None}
 
 -- d with s written over it from `at` on: "written at the front of the lent buffer; later bytes stay".
-abbrev pub over : List ℕ → ℕ → List ℕ → List ℕ
+abbrev pub over : {A : Type 0} → List A → ℕ → List A → List A
 over d at s = take at d ++ s ++ drop (at + length s) d
 
 -- The first place at which two lists differ, counted from k.
