@@ -4,8 +4,9 @@ use mathlib.Core.Path.{◌≡◌, refl, ap, ap₂, sym, ◌∙◌}
 use mathlib.Core.List.{List, [], ◌∷◌, ◌++◌, append_assoc}
 use native.Mathlib.Omega.{arith}
 use native.Mathlib.Numerals.{add-one}
-use lib.ListN.{length, take, set, get_or}
-use lib.Seq.{length-take-le, take-suc}
+use lib.ListN.{length, take, drop, set, get_or}
+use lib.Seq.{length-take-le, take-suc, get_or-take, get_or-drop}
+use Rattle.std.specs.Simd.{first_chunks}
 use Rattle.lent.specs.Lent.{over}
 use Rattle.lent.specs.Bytes.{Every, Byte}
 use Rattle.lent.proofs.Over.{over_over, over_two}
@@ -40,6 +41,25 @@ unfolding swapped
 swapped_bytes [] h = tt
 swapped_bytes (x ∷ []) h = tt
 swapped_bytes (x ∷ y ∷ xs) h = (h.1.0, (h.0, swapped_bytes xs h.1.1))
+
+-- an odd byte over is left out
+pub swapped_pairs : (n : ℕ) (xs : List ℕ) → 2 * n ≤ length xs → length xs ≤ 2 * n + 1 → swapped (take (2 * n) xs) ≡ swapped xs
+unfolding swapped
+swapped_pairs zero [] l m = refl
+swapped_pairs zero (x ∷ []) l m = refl
+swapped_pairs zero (x ∷ y ∷ xs) l m = absurd (omega arith)
+swapped_pairs (suc n) [] l m = absurd (omega arith)
+swapped_pairs (suc n) (x ∷ []) l m = absurd (omega arith)
+swapped_pairs (suc n) (x ∷ y ∷ xs) l m =
+    let two : 2 * suc n ≡ suc (suc (2 * n)) = omega arith in
+    rw two (ap (λ (r : List ℕ). y ∷ x ∷ r) (swapped_pairs n xs (omega arith) (omega arith)))
+
+-- where the bytes of a pair lie
+pub pair_byte : (n : ℕ) (xs : List ℕ) (i k j : ℕ) → i < n → k < 2 → j ≡ 2 * i + k → get_or (get_or (first_chunks 2 n xs) i []) k 0 ≡ get_or xs j 0
+pair_byte zero xs i k j l m e = absurd (omega arith)
+pair_byte (suc n) xs zero k j l m e = get_or-take 2 xs k 0 m ∙ ap (λ (j : ℕ). get_or xs j 0) (omega arith)
+pair_byte (suc n) xs (suc i) k j l m e =
+    pair_byte n (drop 2 xs) i k (2 * i + k) (omega arith) m refl ∙ get_or-drop 2 xs (2 * i + k) 0 ∙ ap (λ (j : ℕ). get_or xs j 0) (omega arith)
 
 take_two : (s : List ℕ) (k : ℕ) → k + 1 < length s → take (suc (suc k)) s ≡ take k s ++ get_or s k 0 ∷ get_or s (k + 1) 0 ∷ []
 take_two s k l = rw (take-suc s (suc k) 0 (omega arith), take-suc s k 0 (omega arith), add-one k) (append_assoc (take k s) (get_or s k 0 ∷ []) (get_or s (suc k) 0 ∷ []))

@@ -15,55 +15,27 @@ const MOST_ENDS: u64 = 6;
 
 const MOST_STATUS: u64 = 96;
 
-// How many bytes stand before the channels: the sample number and the time.
+// Where the time stands, behind the sample number; and where the channels begin.
+pub const TIME: usize = 4;
+
 pub const BEFORE_CHANNELS: usize = 8;
 
-// The largest sample number there is.
-const LAST_NUMBER: u64 = 4294967295;
-
-// A byte as a number.
-fn wide(b: u8) -> u64
-    ensures { (result ≡ b) × (result < 256) }
-{
-    b as u64
-}
-
 // The number of the four bytes from `at` on, the low one first.
-pub fn word(bytes: &[u8], at: usize) -> u64
+#[tactic(auto, unfolding(crate::specs::Record::word_at))]
+pub fn word(bytes: &[u8], at: usize) -> u32
     requires { at + 4 ≤ length bytes.now }
-    ensures { (result ≡ word_at bytes.now at) × (result < 4294967296) }
+    ensures { result ≡ word_at bytes.now at }
 {
-    let b0 = wide(bytes[at]);
-    let b1 = wide(bytes[at + 1]);
-    let b2 = wide(bytes[at + 2]);
-    let b3 = wide(bytes[at + 3]);
-    b0 + 256 * (b1 + 256 * (b2 + 256 * b3))
+    u32::from_le_bytes([bytes[at], bytes[at + 1], bytes[at + 2], bytes[at + 3]])
 }
 
-// What stands before the channels of a record.
-fn front(number: u32, time: u32) -> [u8; BEFORE_CHANNELS]
-    ensures { result ≡ four_bytes number ++ four_bytes time }
-{
-    [
-        (number % 256) as u8,
-        (number / 256 % 256) as u8,
-        (number / 256 / 256 % 256) as u8,
-        (number / 256 / 256 / 256 % 256) as u8,
-        (time % 256) as u8,
-        (time / 256 % 256) as u8,
-        (time / 256 / 256 % 256) as u8,
-        (time / 256 / 256 / 256 % 256) as u8,
-    ]
-}
-
-// Writes n channels over dst, from `at` on, the two bytes of each exchanged: from low byte first to high byte first, and back.
-pub fn turn(dst: &mut [u8], at: usize, src: &[u8], n: usize)
-    requires { (length src.now ≡ 2 * n) × (at + 2 * n ≤ length dst.old) }
+// Writes channels over dst, from `at` on, the two bytes of each exchanged: from low byte first to high byte first, and back.
+pub fn turn(dst: &mut [u8], at: usize, src: &[u8])
+    requires { at + length src.now ≤ length dst.old }
     ensures { dst.new ≡ over dst.old at (swapped src.now) }
 {
-    for i in 0..n {
-        let low = src[2 * i];
-        let high = src[2 * i + 1];
+    let (pairs, _) = src.as_chunks::<2>();
+    for (i, &[low, high]) in pairs.iter().enumerate() {
         dst[at + 2 * i] = high;
         dst[at + 2 * i + 1] = low;
     }
@@ -73,20 +45,14 @@ pub fn turn(dst: &mut [u8], at: usize, src: &[u8], n: usize)
 pub fn good_ends(ends: u64) -> bool
     ensures { result ≡ good_ends ends }
 {
-    if ends < FEWEST_ENDS {
-        return false;
-    }
-    ends <= MOST_ENDS
+    (FEWEST_ENDS..=MOST_ENDS).contains(&ends)
 }
 
 // Whether the caller's word on a file can be so.
 pub fn good_file(ends: u64, status: u64) -> bool
     ensures { result ≡ good_file ends status }
 {
-    if !good_ends(ends) {
-        return false;
-    }
-    status <= MOST_STATUS
+    good_ends(ends) && status <= MOST_STATUS
 }
 
 // How many bytes a record has.
@@ -94,7 +60,7 @@ pub fn record_length(ends: usize, status: usize) -> usize
     requires { (ends ≤ 6) × (status ≤ 96) }
     ensures { (result ≡ record_length (narrow ends status)) × (result ≤ 62) }
 {
-    BEFORE_CHANNELS + 2 * (3 + 3 * ends) + 2 * ((status + 15) / 16)
+    BEFORE_CHANNELS + 2 * samples::channels(ends) + 2 * status.div_ceil(16)
 }
 
 // The record that a frame and its time make, when so many came before, at the front of a lent buffer; later bytes stay.
@@ -104,18 +70,18 @@ pub fn write(ends: u64, written: u64, time: u32, frame: &[u8], out: &mut [u8]) -
     if !good_ends(ends) {
         return Answer::BadFile;
     }
-    let n = 3 + 3 * (ends as usize);
-    if frame.len() != 2 * n {
+    let long = 2 * samples::channels(ends as usize);
+    if frame.len() != long {
         return Answer::OtherFrameLength;
     }
-    if out.len() < BEFORE_CHANNELS + 2 * n {
+    if out.len() < BEFORE_CHANNELS + long {
         return Answer::NoRoom;
     }
-    if LAST_NUMBER <= written {
+    let Ok(number) = u32::try_from(written.saturating_add(1)) else {
         return Answer::OtherNumber(0);
-    }
-    let front = front((written + 1) as u32, time);
-    lent::put(out, 0, &front);
-    turn(out, BEFORE_CHANNELS, frame, n);
+    };
+    lent::put(out, 0, &number.to_le_bytes());
+    lent::put(out, TIME, &time.to_le_bytes());
+    turn(out, BEFORE_CHANNELS, frame);
     Answer::Done
 }
