@@ -1,7 +1,6 @@
 -- Document 01, "Settings record": the fields by name, each where its row of the table says, and the range of each in every good record.
 use Rattle.std.specs.Prelude.{ℕ, ◌+◌, ◌*◌, ◌≤◌, ◌≡◌, ◌⊎◌, List, [], ◌∷◌, get_or, ℤ, ◌≤ℤ◌, ◌<ℤ◌}
 use Rattle.std.proofs.Common.{inl, inr, ap, arith}
-use native.Mathlib.Nat.{ℕ_set}
 use Rattle.std.proofs.Props.{props}
 use Rattle.settings.specs.Record.{field_at, signed_at}
 use Rattle.settings.specs.Table.{most_reach, Rule, Unsigned, Signed, Squares, Below, OffOrFrom, Byte, offset_of, ends_row, slope_row, pickup_row, replica_real_row, replica_imaginary_row, reach_row, k_real_row, k_imaginary_row, angle_real_row, angle_imaginary_row, angle_size_row, forward_limit_row, reverse_limit_row, limits_order_row, negative_sequence_pickup_row, second_reach_row, resistive_reach_row, spare_rows}
@@ -112,7 +111,7 @@ pub record Ranges (s : List ℕ) : Type 0 where
 
 -- A second reach that is off is not from the first one up, which is 1 at least.
 pub second_reach-prop : {low v : ℕ} → From 1 most_reach low → IsProp ((v ≡ 0) ⊎ From low most_reach v)
-second_reach-prop {v} h (inl x) (inl y) = ap inl (ℕ_set v 0 x y)
+second_reach-prop h (inl x) (inl y) = ap inl (hlevel props)
 second_reach-prop h (inl x) (inr y) = absurd (omega arith)
 second_reach-prop h (inr x) (inl y) = absurd (omega arith)
 second_reach-prop h (inr x) (inr y) = ap inr (hlevel props)

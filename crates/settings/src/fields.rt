@@ -17,28 +17,28 @@ impl Settings<'_> {
     fn counted(self, at: u8) -> i64
         ensures { result ≡ pos (field_at self.entry.bytes.now at) }
     {
-        crate::field(self.bytes, at) as i64
+        i64::from(crate::field(self.bytes, at))
     }
 
     // N, the ends of the line.
     pub fn ends(self) -> u64
         ensures { result ≡ ends self.entry.bytes.now }
     {
-        crate::field(self.bytes, at::ENDS)
+        u64::from(crate::field(self.bytes, at::ENDS))
     }
 
     // K, percent.
     pub fn slope(self) -> u64
         ensures { result ≡ slope self.entry.bytes.now }
     {
-        crate::field(self.bytes, at::SLOPE)
+        u64::from(crate::field(self.bytes, at::SLOPE))
     }
 
     // The differential's pickup, counts.
     pub fn pickup(self) -> u64
         ensures { result ≡ pickup self.entry.bytes.now }
     {
-        crate::field(self.bytes, at::PICKUP)
+        u64::from(crate::field(self.bytes, at::PICKUP))
     }
 
     // The replica impedance Z, thousandths.
@@ -71,7 +71,7 @@ impl Settings<'_> {
     pub fn k_imaginary(self) -> i64
         ensures { result ≡ k_imaginary self.entry.bytes.now }
     {
-        crate::signed_field(self.bytes, at::K_IMAGINARY)
+        i64::from(crate::signed_field(self.bytes, at::K_IMAGINARY))
     }
 
     // The line angle D.
@@ -91,13 +91,13 @@ impl Settings<'_> {
     pub fn forward_limit(self) -> i64
         ensures { result ≡ forward_limit self.entry.bytes.now }
     {
-        crate::signed_field(self.bytes, at::FORWARD_LIMIT)
+        i64::from(crate::signed_field(self.bytes, at::FORWARD_LIMIT))
     }
 
     pub fn reverse_limit(self) -> i64
         ensures { result ≡ reverse_limit self.entry.bytes.now }
     {
-        crate::signed_field(self.bytes, at::REVERSE_LIMIT)
+        i64::from(crate::signed_field(self.bytes, at::REVERSE_LIMIT))
     }
 
     // The pickup of 3I2, counts.
@@ -118,6 +118,6 @@ impl Settings<'_> {
     pub fn resistive_reach(self) -> u64
         ensures { result ≡ resistive_reach self.entry.bytes.now }
     {
-        crate::field(self.bytes, at::RESISTIVE_REACH)
+        u64::from(crate::field(self.bytes, at::RESISTIVE_REACH))
     }
 }
