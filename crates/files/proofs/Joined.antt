@@ -3,13 +3,12 @@
 use Prim.Native.Nat.{ℕ, suc, ◌+◌, ◌<◌, ◌≤◌}
 use mathlib.Core.Path.{◌≡◌, refl, sym, ap, ap₂, subst, ◌∙◌}
 use mathlib.Core.List.{List, [], ◌∷◌, ◌++◌, append_assoc, append-nil}
-use mathlib.Core.Bool.{Bool, true, false, false≢true, cond}
+use mathlib.Core.Bool.{Bool, true, false, cond}
 use native.Mathlib.Omega.{arith}
 use borrow.Author.Tests.{leb-true, leb-false, le-leb, eq-eqb}
 use lib.Dec.{leb}
 use lib.ListN.{length, length-append}
-use Rattle.answers.specs.declared.Answer.TheVariants as answer
-use Rattle.answers.specs.Answers.{is_done}
+use Rattle.std.specs.Prelude.{Ok}
 use Rattle.records.specs.Record.{Shape, record_length, number_in}
 use Rattle.files.specs.Reader.{OtherNumber, Stopped, More, Whole, wrong_number, after, end_answer}
 use Rattle.files.specs.Caller.{Caller, hears, call, hand, together, heard_of, notes}
@@ -48,7 +47,7 @@ module _ (sh : Shape) where
   abbrev Keeps : List ℕ → Type 0
   Keeps bs =
       (k : ℕ) (hs : List (List ℕ)) (h : List ℕ) → length h < record_length sh →
-      end_answer (bytewise notes (noted k hs h) bs).reader ≡ answer.Done → Kept k hs (h ++ bs) (bytewise notes (noted k hs h) bs)
+      end_answer (bytewise notes (noted k hs h) bs).reader ≡ Ok tt → Kept k hs (h ++ bs) (bytewise notes (noted k hs h) bs)
 
   -- the caller with the bytes g in hand, by the two tests
   abbrev tested : ℕ → List (List ℕ) → List ℕ → Bool → Bool → Caller Unit (List ℕ)
@@ -60,9 +59,9 @@ module _ (sh : Shape) where
   kept_step :
       (bs : List ℕ) → Keeps bs → (k : ℕ) (hs : List (List ℕ)) (g : List ℕ) → length g ≤ record_length sh →
       (wrong whole : Bool) → wrong_number k g ≡ wrong → leb (record_length sh) (length g) ≡ whole →
-      end_answer (bytewise notes (tested k hs g wrong whole) bs).reader ≡ answer.Done → Kept k hs (g ++ bs) (bytewise notes (tested k hs g wrong whole) bs)
+      end_answer (bytewise notes (tested k hs g wrong whole) bs).reader ≡ Ok tt → Kept k hs (g ++ bs) (bytewise notes (tested k hs g wrong whole) bs)
   unfolding together
-  kept_step bs on k hs g l true whole t u a = absurd (false≢true (ap is_done (rw (ended_bytes notes tt (hs ++ []) (OtherNumber k) bs) at a)))
+  kept_step bs on k hs g l true whole t u a = let e = rw (ended_bytes notes tt (hs ++ []) (OtherNumber k) bs) at a in cc
   kept_step bs on k hs g l false true t u a =
       let rest = on (suc k) (hs ++ g ∷ []) [] (omega (arith, some_length sh)) a in
       let full : record_length sh ≤ length g = leb-true (record_length sh) (length g) u in
@@ -77,12 +76,12 @@ module _ (sh : Shape) where
   kept : (bs : List ℕ) → Keeps bs
   unfolding bytewise together
   kept [] k hs [] f a = record { gs = []; heard = sym (append-nil hs); numbered = tt; bytes = refl }
-  kept [] k hs (x ∷ h) f a = absurd (false≢true (ap is_done a))
+  kept [] k hs (x ∷ h) f a = cc
   kept (b ∷ bs) k hs h f a =
       let g : List ℕ = h ++ b ∷ [] in
       let snoc : h ++ b ∷ bs ≡ g ++ bs = sym (append_assoc h (b ∷ []) bs) in
       let called : call notes (noted k hs h) (b ∷ []) ≡ tested k hs g (wrong_number k g) (leb (record_length sh) (length g)) = rw (all_taken sh h (b ∷ []) (omega arith)) in
-      let rest = kept_step bs (kept bs) k hs g (simp length-append (omega arith)) (wrong_number k g) (leb (record_length sh) (length g)) refl refl (subst (λ (c : Caller Unit (List ℕ)). end_answer (bytewise notes c bs).reader ≡ answer.Done) called a) in
+      let rest = kept_step bs (kept bs) k hs g (simp length-append (omega arith)) (wrong_number k g) (leb (record_length sh) (length g)) refl refl (subst (λ (c : Caller Unit (List ℕ)). end_answer (bytewise notes c bs).reader ≡ Ok tt) called a) in
       rw snoc (subst (λ (c : Caller Unit (List ℕ)). Kept k hs (g ++ bs) (bytewise notes c bs)) (sym called) rest)
 
 pub read_as_joined : ReadAsJoined

@@ -1,7 +1,7 @@
 -- Document 02, CR 5: what a caller hears who hands a file over in pieces, each piece handed again until all of it is taken. It is over what the
 -- caller does with a whole record: feed it to the relay, or only note it.
 use Rattle.std.specs.Prelude.{ℕ, zero, suc, List, [], ◌∷◌, ◌++◌, length, drop}
-use Rattle.answers.specs.declared.Answer.{Answer}
+use Rattle.answers.specs.Answers.{Answer}
 use Rattle.records.specs.Record.{Shape}
 use Rattle.files.specs.Reader.{Ending, Reader, Ended, Reading, Outcome, Stopped, More, Whole, wanted, in_hand, outcome, after, end_answer}
 

@@ -1,6 +1,5 @@
 -- Document 02, CR 5: what is promised of cutting a file into records, over the width of a channel and whatever is done with a record.
-use Rattle.std.specs.Prelude.{ℕ, suc, ◌<◌, ◌≤◌, ◌≡◌, List, [], ◌∷◌, ◌++◌, length}
-use Rattle.answers.specs.declared.Answer.TheVariants as answer
+use Rattle.std.specs.Prelude.{ℕ, suc, ◌<◌, ◌≤◌, ◌≡◌, List, [], ◌∷◌, ◌++◌, length, Ok}
 use Rattle.lent.specs.Bytes.{Every, Byte}
 use Rattle.records.specs.Record.{Shape, record_length, number_in}
 use Rattle.records.specs.Writer.{last_number}
@@ -27,13 +26,13 @@ Numbered sh k (g ∷ gs) = (length g ≡ record_length sh) × (number_in g ≡ s
 abbrev pub ReadAsJoined : Type 0
 ReadAsJoined =
     (sh : Shape) (gs ps : List (List ℕ)) → Numbered sh 0 gs → together ps ≡ together gs →
-    heard_of (hand notes (starts tt (Reading sh 0 [])) ps) ≡ record { heard = gs; at_end = answer.Done }
+    heard_of (hand notes (starts tt (Reading sh 0 [])) ps) ≡ record { heard = gs; at_end = Ok tt }
 
 -- and the other way: a file at whose end 0 is answered is such records put together, those that were read.
 abbrev pub JoinedAsRead : Type 0
 JoinedAsRead =
     (sh : Shape) (ps : List (List ℕ)) → let h = heard_of (hand notes (starts tt (Reading sh 0 [])) ps) in
-    h.at_end ≡ answer.Done → Numbered sh 0 h.heard × (together h.heard ≡ together ps)
+    h.at_end ≡ Ok tt → Numbered sh 0 h.heard × (together h.heard ≡ together ps)
 
 -- What is heard of a refusal that has ended the reading.
 abbrev pub stopped_by : {S I : Type 0} → Hears S I → S → Reader → List I

@@ -1,7 +1,8 @@
 -- Document 02, CR 5: the reader, as data. It has the bytes of the record being read in hand, or the refusal that ended the reading.
-use Rattle.std.specs.Prelude.{ℕ, suc, ◌-◌, ◌<◌, List, [], ◌∷◌, ◌++◌, Bool, cond, not, ◌&&◌, eqb, leb, length, take}
-use Rattle.answers.specs.declared.Answer.{Answer}
-use Rattle.answers.specs.declared.Answer.TheVariants as answer
+use Rattle.std.specs.Prelude.{ℕ, suc, ◌-◌, ◌<◌, List, [], ◌∷◌, ◌++◌, Bool, cond, not, ◌&&◌, eqb, leb, length, take, Ok, Err}
+use Rattle.answers.specs.declared.Refusal.{Refusal}
+use Rattle.answers.specs.declared.Refusal.TheVariants as refused
+use Rattle.answers.specs.Answers.{Answer}
 use Rattle.records.specs.Record.{Shape, good_file, record_length, number_in}
 
 -- "Refusals 11 to 13 end the reading", "place being the record index from 0".
@@ -10,10 +11,13 @@ pub data Ending : Type 0 where
   OtherNumber : ℕ → Ending
   InsideRecord : ℕ → Ending
 
+abbrev pub refusal_of : Ending → Refusal
+refusal_of BadFile = refused.BadFile
+refusal_of (OtherNumber i) = refused.OtherNumber i
+refusal_of (InsideRecord i) = refused.InsideRecord i
+
 abbrev pub answer_of : Ending → Answer
-answer_of BadFile = answer.BadFile
-answer_of (OtherNumber i) = answer.OtherNumber i
-answer_of (InsideRecord i) = answer.InsideRecord i
+answer_of e = Err (refusal_of e)
 
 -- What the caller said of the file, the index of the record being read, and its bytes so far; or what ended the reading.
 pub data Reader : Type 0 where
@@ -70,7 +74,7 @@ end_next (Reading sh i (b ∷ h)) = Ended (InsideRecord i)
 -- The refusal that ended the reading; done where it goes on.
 abbrev pub refusal : Reader → Answer
 refusal (Ended e) = answer_of e
-refusal (Reading sh i h) = answer.Done
+refusal (Reading sh i h) = Ok tt
 
 abbrev pub end_answer : Reader → Answer
 end_answer r = refusal (end_next r)

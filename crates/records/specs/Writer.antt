@@ -1,9 +1,8 @@
 -- Document 02, CR 5: what the writer answers and leaves. "From the writer, at 0 and in this order: 13 for the ends; 9, frame of another length;
 -- 3, room below one record; 12, number past 4294967295."
-use Rattle.std.specs.Prelude.{ℕ, ◌+◌, ◌*◌, ◌≡◌, List, cond, eqb, leb, ltb, length}
-use Rattle.answers.specs.declared.Answer.{Answer}
-use Rattle.answers.specs.declared.Answer.TheVariants.{Done, NoRoom, OtherFrameLength, OtherNumber, BadFile}
-use Rattle.answers.specs.Answers.{if_done}
+use Rattle.std.specs.Prelude.{ℕ, ◌+◌, ◌*◌, ◌≡◌, List, cond, eqb, leb, ltb, length, Ok, Err}
+use Rattle.answers.specs.declared.Refusal.TheVariants.{NoRoom, OtherFrameLength, OtherNumber, BadFile}
+use Rattle.answers.specs.Answers.{Answer, if_done}
 use Rattle.lent.specs.Lent.{over}
 use Rattle.samples.specs.Window.{channels}
 use Rattle.records.specs.Record.{good_ends, narrow, record_length, record_of}
@@ -17,10 +16,10 @@ write_answer ends written frame out =
     cond (good_ends ends)
     (cond (eqb (length frame) (2 * channels ends))
     (cond (leb (record_length (narrow ends 0)) (length out))
-    (cond (ltb written last_number) Done (OtherNumber 0))
-    NoRoom)
-    OtherFrameLength)
-    BadFile
+    (cond (ltb written last_number) (Ok tt) (Err (OtherNumber 0)))
+    (Err NoRoom))
+    (Err OtherFrameLength))
+    (Err BadFile)
 
 -- The record stands at the front of the lent buffer, and later bytes stay. A refusal writes nothing.
 abbrev pub write_out : (ends written time : ℕ) (frame out : List ℕ) → List ℕ

@@ -6,7 +6,7 @@ ghost use Rattle.lent.specs.Lent.{over};
 ghost use Rattle.records.specs.Record.{word_at, four_bytes, swapped, good_ends, good_file, record_length, narrow};
 ghost use Rattle.records.specs.Writer.{Wrote};
 
-use answers::Answer;
+use answers::{Answer, Refusal};
 
 // How many ends a file may have, and how many status channels.
 const FEWEST_ENDS: u64 = 2;
@@ -68,20 +68,21 @@ pub fn write(ends: u64, written: u64, time: u32, frame: &[u8], out: &mut [u8]) -
     ensures { Wrote ends written time frame.now out.old result out.new }
 {
     if !good_ends(ends) {
-        return Answer::BadFile;
+        return Err(Refusal::BadFile);
     }
     let long = 2 * samples::channels(ends as usize);
     if frame.len() != long {
-        return Answer::OtherFrameLength;
+        return Err(Refusal::OtherFrameLength);
     }
     if out.len() < BEFORE_CHANNELS + long {
-        return Answer::NoRoom;
+        return Err(Refusal::NoRoom);
     }
+    // A number of 32 bits; after the last there is none.
     let Ok(number) = u32::try_from(written.saturating_add(1)) else {
-        return Answer::OtherNumber(0);
+        return Err(Refusal::OtherNumber(0));
     };
     lent::put(out, 0, &number.to_le_bytes());
     lent::put(out, TIME, &time.to_le_bytes());
     turn(out, BEFORE_CHANNELS, frame);
-    Answer::Done
+    Ok(())
 }
