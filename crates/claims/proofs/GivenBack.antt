@@ -17,8 +17,6 @@ use Rattle.lent.proofs.Differences.{difference_first, first_difference_lem, diff
 use Rattle.samples.specs.Window.{numbers_of, first_missing}
 use Rattle.samples.proofs.Bytes.{held}
 use Rattle.samples.proofs.Missing.{first_at, first_nothing, is_first}
-use Rattle.settings.specs.declared.Checked.{Checked}
-use Rattle.settings.specs.declared.Checked.TheVariants.{Good, Bad}
 use Rattle.settings.specs.Table.{settings_table}
 use Rattle.settings.specs.Check.{checked}
 use Rattle.settings.proofs.Good.{fault_found, fault_is}
@@ -61,8 +59,8 @@ module _ (s e : List ℕ) where
       ProposeRow s e (given_back (cond a (cond b (of_check f) (Err OtherEntryLength)) (Err NoRelay)))
   propose_row false b f t u v = row.ProposeRow.no_relay (no_relay s t)
   propose_row true false f t u v = row.ProposeRow.entry_length (relay s t) (eqb-false _ _ u)
-  propose_row true true (Bad k) t u v = row.ProposeRow.out_of_range (relay s t) (eqb-true _ _ u) k (fault_found settings_table e k v)
-  propose_row true true Good t u v = row.ProposeRow.done (relay s t) (eqb-true _ _ u) (ap of_check v)
+  propose_row true true (Err f) t u v = row.ProposeRow.out_of_range (relay s t) (eqb-true _ _ u) f.at (fault_found settings_table e f.at v)
+  propose_row true true (Ok good) t u v = row.ProposeRow.done (relay s t) (eqb-true _ _ u) (ap of_check v)
 
   row_propose : (m : ℕ) → ProposeRow s e m → given_back (propose_answer s e) ≡ m
   row_propose m (row.ProposeRow.no_relay l) = rw (ne_eqb (length s) state_length l)

@@ -9,9 +9,8 @@ use lib.Dec.{leb}
 use lib.IntN.{ℤ}
 use lib.ListN.{drop, get_or, get_or-append}
 use Rattle.settings.specs.Record.{field_at}
-use Rattle.settings.specs.declared.Checked.TheVariants.{Bad}
 use Rattle.settings.specs.Table.{Rule, Byte, offset_of}
-use Rattle.settings.specs.Check.{holds, checked_by}
+use Rattle.settings.specs.Check.{holds, fault, checked_by}
 use Rattle.settings.specs.Fields.{AllKept}
 use Rattle.settings.proofs.Good.{all_kept}
 use Rattle.differential.specs.Differential.{operating_bits}
@@ -80,7 +79,7 @@ module _ (s : List ℕ) (w : List ℤ) (out d : List ℕ) (c : Decision s w out 
 behind : (rs ts us : List Rule) (s : List ℕ) → checked_by ts s ≡ checked_by us s → checked_by (rs ++ ts) s ≡ checked_by (rs ++ us) s
 unfolding checked_by
 behind [] ts us s e = e
-behind (r ∷ rs) ts us s e = ap (λ x. cond (holds s r) x (Bad (offset_of r))) (behind rs ts us s e)
+behind (r ∷ rs) ts us s e = ap (λ x. cond (holds s r) x (fault (offset_of r))) (behind rs ts us s e)
 
 kept_from : (front rs : List Rule) (s : List ℕ) → AllKept (front ++ rs) s → AllKept rs s
 kept_from [] rs s a = a

@@ -1,8 +1,7 @@
 -- What a request must not move is said by way of what stays alike: two records that differ in one field, records whose field is zero, and a
 -- decision's 32 bytes with some of them as they were.
-use Rattle.std.specs.Prelude.{ℕ, ◌+◌, ◌≡◌, List, ◌∷◌, ◌++◌, get_or}
+use Rattle.std.specs.Prelude.{ℕ, ◌+◌, ◌≡◌, List, ◌∷◌, ◌++◌, get_or, Ok}
 use Rattle.whole.specs.Exactly.{Exactly}
-use Rattle.settings.specs.declared.Checked.TheVariants.{Good}
 use Rattle.settings.specs.Record.{field_at}
 use Rattle.settings.specs.Table.{Rule, Byte, offset_of, second_reach_row, differential_rows, distance_rows, angle_rows, direction_rows, spare_rows}
 use Rattle.settings.specs.Check.{checked_by}
@@ -28,7 +27,7 @@ pub record FromBefore (row : Rule) (since before : List Rule) : Type 0 where
   -- a record in which both bytes are zero is found as before: good, or bad at the same place
   pub found_alike : (s : List ℕ) → get_or s (offset_of row) 0 ≡ 0 → get_or s (offset_of row + 1) 0 ≡ 0 → checked_by since s ≡ checked_by before s
   -- and a record was good before exactly if it is good since and the field is 0
-  pub good_before : (s : List ℕ) → Exactly (checked_by before s ≡ Good) ((checked_by since s ≡ Good) × (field_at s (offset_of row) ≡ 0))
+  pub good_before : (s : List ℕ) → Exactly (checked_by before s ≡ Ok tt) ((checked_by since s ≡ Ok tt) × (field_at s (offset_of row) ≡ 0))
 
 -- The bytes of a decision once more, with what requests have changed as it is given: byte 0 (document 02, CR 4), byte 1 (CR 7), and bytes 5 to
 -- 7 (CR 6).

@@ -7,9 +7,7 @@ use Rattle.std.specs.Prelude.{Ok, Err}
 use Rattle.answers.specs.declared.Refusal.TheVariants.{NoSettings, NoRelay}
 use Rattle.answers.specs.Answers.{is_done}
 use Rattle.answers.proofs.Numbers.{done_is}
-use Rattle.settings.specs.declared.Checked.{Checked}
-use Rattle.settings.specs.declared.Checked.TheVariants.{Good, Bad}
-use Rattle.settings.specs.Check.{checked}
+use Rattle.settings.specs.Check.{Checked, checked}
 use Rattle.settings.specs.Fields.{Ranges}
 use Rattle.settings.proofs.Good.{ranges}
 use Rattle.entry.proofs.Done.{stored_done}
@@ -17,9 +15,9 @@ use Rattle.gorsepetal.specs.State.{settings_of}
 use Rattle.gorsepetal.specs.Calls.{is_relay, of_check, verdict, GoodRecord, in_force, ready}
 
 -- the verdict is done only where the check finds a good record
-found_good : (f : Checked) → of_check f ≡ Ok tt → f ≡ Good
-found_good Good t = refl
-found_good (Bad k) t = absurd (false≢true (ap is_done t))
+found_good : (f : Checked) → of_check f ≡ Ok tt → f ≡ Ok tt
+found_good (Ok good) t = refl
+found_good (Err fault) t = absurd (false≢true (ap is_done t))
 
 pub in_range : (r : List ℕ) → GoodRecord r → Ranges r
 in_range r a = ranges r (found_good (checked r) a)

@@ -3,10 +3,8 @@ use Rattle.std.specs.Prelude.{ℕ, ◌*◌, ◌≡◌, List, Bool, cond, ℤ, le
 use Rattle.answers.specs.declared.Refusal.TheVariants.{NoSettings, NoRoom, OutOfRange, NoRelay}
 use Rattle.answers.specs.Answers.{Answer, given_back, if_done}
 use Rattle.lent.specs.Lent.{over}
-use Rattle.settings.specs.declared.Checked.{Checked}
-use Rattle.settings.specs.declared.Checked.TheVariants.{Good, Bad}
 use Rattle.samples.specs.Window.{window_length, numbers_of}
-use Rattle.settings.specs.Check.{checked}
+use Rattle.settings.specs.Check.{Checked, checked}
 use Rattle.settings.specs.Fields.{ends}
 use Rattle.decision.specs.Decide.{window_answer, written}
 use Rattle.entry.specs.Pair.{record_length}
@@ -20,8 +18,8 @@ is_relay s = eqb (length s) state_length
 
 -- Refusal 6: a field out of range, at its offset.
 abbrev pub of_check : Checked → Answer
-of_check Good = Ok tt
-of_check (Bad k) = Err (OutOfRange k)
+of_check (Ok good) = Ok tt
+of_check (Err fault) = Err (OutOfRange fault.at)
 
 -- What propose answers to a record of 32 bytes.
 abbrev pub verdict : List ℕ → Answer

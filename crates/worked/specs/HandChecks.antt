@@ -1,11 +1,10 @@
 -- Document 01, "Hand checks": "P marks the proved set, one table with a single claim over it." Here are the kinds of check, what each says in
 -- document 01's definitions, the table, and the claim.
-use Rattle.std.specs.Prelude.{ℕ, ◌≡◌, List, [], ◌∷◌, Bool, true, false, cond, eqb, ℤ, pos, length, get_or}
+use Rattle.std.specs.Prelude.{ℕ, ◌≡◌, List, [], ◌∷◌, Bool, true, false, cond, eqb, ℤ, pos, length, get_or, Ok}
 use Rattle.whole.specs.TwosComplement.{unsigned}
 use Rattle.plane.specs.declared.Phasor.{Phasor}
 use Rattle.phasors.specs.Rate.{cosine, cosines}
 use Rattle.phasors.specs.Sums.{phasor_of}
-use Rattle.settings.specs.declared.Checked.TheVariants.{Good}
 use Rattle.settings.specs.Record.{negated}
 use Rattle.settings.specs.Table.{offset_of, forward_limit_row, negative_sequence_pickup_row}
 use Rattle.settings.specs.Check.{checked}
@@ -77,10 +76,10 @@ Holds (restraint_is ends U) = restraint (end_phasor ends) (length ends) ≡ U
 Holds (loop_asserts v vp z i r b) = asserts r (ratio_of (phasor z) (loop v vp i)) ≡ b
 Holds (loop_never v vp z i) = (r : ℤ) → asserts r (ratio_of (phasor z) (loop v vp i)) ≡ false
 Holds (direction_is d zf i2 v2 side) =
-    (direction_of (with_limit zf) (phasor v2) (phasor i2) ≡ side) × (checked (with_limit zf) ≡ Good)
+    (direction_of (with_limit zf) (phasor v2) (phasor i2) ≡ side) × (checked (with_limit zf) ≡ Ok tt)
     × (angle (with_limit zf) ≡ phasor d) × (forward_limit (with_limit zf) ≡ zf)
 Holds (pickup_passes pickup i2 b) =
-    (reaches_pickup (with_pickup pickup) (phasor i2) ≡ b) × (checked (with_pickup pickup) ≡ Good) × (negative_sequence_pickup (with_pickup pickup) ≡ pickup)
+    (reaches_pickup (with_pickup pickup) (phasor i2) ≡ b) × (checked (with_pickup pickup) ≡ Ok tt) × (negative_sequence_pickup (with_pickup pickup) ≡ pickup)
 
 abbrev pub AllHold : List Check → Type 0
 AllHold [] = Unit {0}
