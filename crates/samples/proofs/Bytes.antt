@@ -3,19 +3,21 @@ use Prim.Native.Nat.{ℕ, zero, suc, ◌+◌, ◌*◌, ◌/◌, ◌-◌, ◌<◌
 use mathlib.Core.Path.{◌≡◌, refl, sym, ap, ap₂, ◌∙◌}
 use mathlib.Core.List.{List, [], ◌∷◌, ◌++◌}
 use mathlib.Core.Bool.{Bool, true, false, cond, ◌&&◌}
-use native.Mathlib.Nat.{not-suc-le-zero, ne_of_lt}
+use native.Mathlib.Nat.{not-suc-le-zero}
 use native.Mathlib.Numerals.{add-one}
 use native.Mathlib.Omega.{arith}
-use borrow.Author.Count.{below_more}
-use borrow.Author.Tests.{eq-eqb, ne_eqb, le-leb, lt-leb, eqb-true, eqb-false, leb-true}
+use borrow.Author.Tests.{eq-eqb, ne_eqb, le-leb, eqb-true, eqb-false, leb-true}
 use lib.Dec.{eqb, leb}
 use lib.IntN.{ℤ, pos}
 use lib.ListN.{length, take, drop, set, get_or}
-use lib.Seq.{take-suc, take-suc-set, take_all, drop-nil, get_or-set_same, get_or-set_other}
+use lib.Seq.{take-suc, take-suc-set, take_all, drop-nil}
+use mir.Syntax.{w16}
+use Rattle.std.specs.Int.{cast_signed}
+use Rattle.std.specs.Simd.{first_chunks}
 use Rattle.whole.specs.TwosComplement.{signed}
+use Rattle.whole.proofs.TwosComplement.{cast_signed_is}
 use Rattle.samples.specs.Window.{window_length, numbers_of, HoldsNumbers}
 use Rattle.samples.specs.Sizes.{count}
-use Rattle.samples.specs.Decoding.{LowFirst, AllLowFirst}
 
 pub numbers_length : (b : List ℕ) → length (numbers_of b) ≡ length b / 2
 unfolding numbers_of
@@ -27,14 +29,8 @@ numbers_length (x ∷ y ∷ b) = omega (arith, numbers_length b)
 pub held : (n : ℕ) (b : List ℕ) → HoldsNumbers n b → length (numbers_of b) ≡ n
 held n b h = omega (arith, numbers_length b)
 
--- how many are taken: where a byte is over, where they are too many, and else
+-- how many are taken
 module _ (b : List ℕ) where
-  pub count_odd : (2 * (length b / 2) ≡ length b → ⊥) → 0 ≡ count b
-  count_odd h = rw (ne_eqb (2 * (length b / 2)) (length b) h)
-
-  pub count_long : 2 * (length b / 2) ≡ length b → window_length 6 < length b / 2 → 0 ≡ count b
-  count_long h l = rw (eq-eqb (2 * (length b / 2)) (length b) h, lt-leb (length b / 2) (window_length 6) l)
-
   pub count_all : 2 * (length b / 2) ≡ length b → length b / 2 ≤ window_length 6 → length b / 2 ≡ count b
   count_all h l = rw (eq-eqb (2 * (length b / 2)) (length b) h, le-leb (length b / 2) (window_length 6) l)
 
@@ -98,21 +94,17 @@ numbers_append m [] b h = refl
 numbers_append m (x ∷ []) b h = absurd (omega arith)
 numbers_append m (x ∷ y ∷ a) b h = ap (λ (l : List ℤ). signed (x * 256 + y) ∷ l) (numbers_append (m - 1) a b (omega arith))
 
--- bytes so read at the front of a list, and two more
-pub low_first_more :
-    (b : List ℕ) (w : List ℤ) (i : ℕ) (x : ℤ) → i < length w → AllLowFirst b w i → LowFirst (get_or b (2 * i) 0) (get_or b (2 * i + 1) 0) x →
-    AllLowFirst b (set w i x) (i + 1)
-low_first_more b w i x h p here =
-    below_more (λ (k : ℕ). LowFirst (get_or b (2 * k) 0) (get_or b (2 * k + 1) 0) (get_or (set w i x) k (pos 0))) i
-    (λ k l. rw (get_or-set_other w i k x (pos 0) (λ e. ne_of_lt l e)) (p k l))
-    (rw (get_or-set_same w i x (pos 0) h) here)
-
--- those from i on, which are left
-abbrev pub Left : List ℕ → List ℤ → ℕ → ℕ → Type 0
-Left b w i n = (k : ℕ) → i ≤ k → k < n → LowFirst (get_or b (2 * k) 0) (get_or b (2 * k + 1) 0) (get_or w k (pos 0))
-
-pub left_fewer : (b : List ℕ) (w : List ℤ) (i n : ℕ) (x : ℤ) → Left b w i n → Left b (set w i x) (i + 1) n
-left_fewer b w i n x p k l m = rw (get_or-set_other w i k x (pos 0) (λ e. absurd (omega (arith, e)))) (p k (omega arith) m)
+-- as std reads it from the pair at i
+pub number_of_pair :
+    (n : ℕ) (b : List ℕ) (i : ℕ) → ((k : ℕ) → get_or b k 0 < 256) → i < n → 2 * n ≤ length b →
+    cast_signed w16 (get_or (get_or (first_chunks 2 n b) i []) 0 0 * 256 + get_or (get_or (first_chunks 2 n b) i []) 1 0)
+    ≡ get_or (numbers_of b) i (pos 0)
+unfolding numbers_of
+number_of_pair zero b i byte h room = absurd (not-suc-le-zero h)
+number_of_pair (suc n) [] i byte h room = absurd (omega arith)
+number_of_pair (suc n) (x ∷ []) i byte h room = absurd (omega arith)
+number_of_pair (suc n) (x ∷ y ∷ b) zero byte h room = cast_signed_is (x * 256 + y) (omega (arith, byte 0, byte 1))
+number_of_pair (suc n) (x ∷ y ∷ b) (suc i) byte h room = number_of_pair n b i (λ k. byte (suc (suc k))) (omega arith) (omega arith)
 
 -- a list filled from the front as t is, filled one place further with what t has there
 pub filled : (s t : List ℤ) (i : ℕ) → i < length s → i < length t → take i s ≡ take i t → take (i + 1) (set s i (get_or t i (pos 0))) ≡ take (i + 1) t

@@ -8,11 +8,12 @@ use native.Mathlib.Omega.{arith}
 use borrow.Author.Tests.{eqb-true}
 use lib.IntN.{ℤ, pos, negsuc}
 use lib.ListN.{length}
-use Rattle.samples.specs.Window.{missing_mark, same, missing_from, first_missing}
-use Rattle.samples.specs.Order.{Missing, NoneMissing, Finds, FirstInOrder}
 use Rattle.std.specs.Prelude.{Option, None, Some}
 use Rattle.std.specs.List.{AllWithin, HoldsAt}
 use Rattle.std.specs.Option.{MatchOption}
+use Rattle.std.specs.Ordering.{int_eq}
+use Rattle.samples.specs.Window.{missing_mark, same, missing_from, first_missing}
+use Rattle.samples.specs.Order.{Missing, NoneMissing, Finds, FirstInOrder}
 
 -- ---- the test of one number
 
@@ -83,16 +84,20 @@ one w (Some k) (Some l) g h = ap Some (le_antisymm (no_earlier w k l g.2 h.1) (n
 pub is_first : (w : List ℤ) (r : Option ℕ) → Finds w r → r ≡ first_missing w
 is_first w r h = one w r (first_missing w) h (finds w)
 
--- where a search finds the first number for which the test holds, that is it
-abbrev Present : ℤ → Type 0
-Present x = x ≡ missing_mark → ⊥
+-- ---- in the words of std
 
-pub is_found :
+-- where no number equals the mark, none is missing
+pub none_marked : (w : List ℤ) → AllWithin (λ x. int_eq x missing_mark ≡ false) w 0 (length w) → None ≡ first_missing w
+none_marked w h = is_first w None (λ k l m. let other = h k (pos 0) (omega arith) l in true≢false (rw m at other))
+
+-- the first that is the mark is the first missing
+pub first_marked :
     (w : List ℤ) (r : Option ℕ) →
-    MatchOption r (AllWithin Present w 0 (length w)) (λ i. (i < length w) × HoldsAt (λ x. x ≡ missing_mark) w i × AllWithin Present w 0 i) →
+    MatchOption r (AllWithin (λ x. x ≡ missing_mark → ⊥) w 0 (length w))
+    (λ i. (i < length w) × HoldsAt (λ x. x ≡ missing_mark) w i × AllWithin (λ x. x ≡ missing_mark → ⊥) w 0 i) →
     r ≡ first_missing w
-is_found w None h = is_first w None (λ k l. h k (pos 0) (omega arith) l)
-is_found w (Some i) h = is_first w (Some i) (h.0, h.1 (pos 0), λ k l. h.2 k (pos 0) (omega arith) l)
+first_marked w None h = is_first w None (λ k l. h k (pos 0) (omega arith) l)
+first_marked w (Some i) h = is_first w (Some i) (h.0, h.1 (pos 0), λ k l. h.2 k (pos 0) (omega arith) l)
 
 -- ---- frame order, then channel order
 

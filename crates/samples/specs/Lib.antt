@@ -1,5 +1,4 @@
--- What a window is, what a missing sample in it is, and how the code takes numbers out of bytes.
+-- What a window is, what a missing sample in it is, and how many numbers the code takes out of bytes.
 pub mod Window
 pub mod Order
-pub mod Decoding
 pub mod Sizes

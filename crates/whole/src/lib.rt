@@ -52,22 +52,14 @@ pub fn root_up(x: u64) -> u64
 pub fn signed(v: u16) -> i16
     ensures { result ≡ signed v }
 {
-    if v < 32768 {
-        v as i16
-    } else {
-        ((v as i32) - 65536) as i16
-    }
+    v.cast_signed()
 }
 
 // And back, the same 16 bits.
 pub fn unsigned(z: i16) -> u16
     ensures { result ≡ unsigned z }
 {
-    if z < 0 {
-        ((z as i32) + 65536) as u16
-    } else {
-        z as u16
-    }
+    z.cast_unsigned()
 }
 
 // Three bits: the first weighs 1, the second 2, the third 4.
