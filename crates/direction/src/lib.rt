@@ -79,6 +79,7 @@ fn torque(d: Phasor, v2: Phasor, i2: Phasor) -> i64
 }
 
 // On which side of the two limits T lies; the square is |3I2|².
+#[tactic(auto, using(crate::proofs::Sizes::limits), unfolding(crate::specs::Direction::side_of))]
 fn side(zf: i64, zr: i64, t: i64, square: i64) -> Direction
     requires { Within most_limit zf × Within most_limit zr × Within square_size square }
     ensures { result ≡ side_of zf zr t square }
