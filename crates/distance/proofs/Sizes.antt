@@ -21,11 +21,11 @@ module _ {s : List ℕ} (h : Ranges s) where
   compensation_inside = record { real = from h.k_real_range; imag = from_signed h.k_imaginary_range }
 
 -- Ia+Ib+Ic
-pub residual_inside : {i : Phases} → AllInside phasor_size i → Inside residual_size (residual i)
+pub residual_inside : {i : Phases Phasor} → AllInside phasor_size i → Inside residual_size (residual i)
 unfolding residual
 residual_inside i = inside_plus (inside_plus i.inside_a i.inside_b) i.inside_c
 
 -- the k product
-pub k_product_inside : {k : Phasor} {i : Phases} → Compensates k → AllInside phasor_size i → Inside k_product_size (k_product k i)
+pub k_product_inside : {k : Phasor} {i : Phases Phasor} → Compensates k → AllInside phasor_size i → Inside k_product_size (k_product k i)
 unfolding k_product
 k_product_inside k i = inside_wider (inside_rounded 1000 tt (inside_factor k.real k.imag (residual_inside i))) tt

@@ -61,7 +61,7 @@ const K_SCALE: i64 = 1000;
 const REACH_SCALE: i64 = 1000000;
 
 // Ia+Ib+Ic.
-pub fn residual(i: Phases) -> Phasor
+pub fn residual(i: Phases<Phasor>) -> Phasor
     requires { AllInside phasor_size i }
     ensures { (result ≡ residual i) × Inside residual_size result }
 {
@@ -69,7 +69,7 @@ pub fn residual(i: Phases) -> Phasor
 }
 
 // The k product, rounded.
-fn k_product(k: Phasor, i: Phases) -> Phasor
+fn k_product(k: Phasor, i: Phases<Phasor>) -> Phasor
     requires { Compensates k × AllInside phasor_size i }
     ensures { (result ≡ k_product k i) × Inside k_product_size result }
 {
@@ -101,7 +101,7 @@ fn phase_loop(vx: Phasor, vy: Phasor, ix: Phasor, iy: Phasor, p: Phasor) -> Loop
 }
 
 // The six from the k product, P, aP and a²P.
-fn six(v: Phases, i: Phases, k: Phasor, p: Phasor, ap: Phasor, a2p: Phasor) -> SixLoops
+fn six(v: Phases<Phasor>, i: Phases<Phasor>, k: Phasor, p: Phasor, ap: Phasor, a2p: Phasor) -> SixLoops
     requires { AllInside phasor_size v × AllInside phasor_size i × Inside k_product_size k × Inside polarising_size p × Inside polarising_size ap × Inside polarising_size a2p }
     ensures { (result ≡ six_of v i k p ap a2p) × SixInside result }
 {
@@ -122,7 +122,7 @@ fn six(v: Phases, i: Phases, k: Phasor, p: Phasor, ap: Phasor, a2p: Phasor) -> S
 }
 
 // The six loops by a good settings record, from the voltages and the currents of end 1.
-pub fn loops(s: &[u8], v: Phases, i: Phases) -> SixLoops
+pub fn loops(s: &[u8], v: Phases<Phasor>, i: Phases<Phasor>) -> SixLoops
     requires { Ranges s.now × AllInside phasor_size v × AllInside phasor_size i }
     ensures { (result ≡ loops_of (compensation s.now) v i) × SixInside result }
 {
