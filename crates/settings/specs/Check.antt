@@ -1,8 +1,7 @@
 -- Document 01, "Settings record": checks go by offset.
-use Rattle.std.specs.Prelude.{ℕ, ◌+◌, ◌*◌, ◌≡◌, List, [], ◌∷◌, Bool, true, false, cond, ◌&&◌, ◌||◌, get_or, ℤ, eqb, leb}
+use Rattle.std.specs.Prelude.{ℕ, ◌+◌, ◌*◌, ◌≡◌, List, [], ◌∷◌, Bool, true, false, cond, ◌&&◌, ◌||◌, get_or, ℤ, eqb, leb, ⊤, Result, Ok, Err}
 use Rattle.std.specs.Int.Signed.{le_z, lt_z}
-use Rattle.settings.specs.declared.Checked.{Checked}
-use Rattle.settings.specs.declared.Checked.TheVariants.{Good, Bad}
+use Rattle.settings.specs.declared.Fault.{Fault}
 use Rattle.settings.specs.Record.{field_at, signed_at}
 use Rattle.settings.specs.Table.{Rule, Unsigned, Signed, Squares, Below, OffOrFrom, Byte, offset_of, settings_table}
 
@@ -26,10 +25,21 @@ holds s (Below x y) = lt_z (signed_at s x) (signed_at s y)
 holds s (OffOrFrom x y high) = off_or_between (field_at s x) high (field_at s y)
 holds s (Byte at low high) = between low high (get_or s at 0)
 
+-- What a check finds: nothing, or a fault.
+abbrev pub Checked : Type 0
+Checked = Result ⊤ Fault
+
+abbrev pub fault : ℕ → Checked
+fault k = Err (record { at = k })
+
+-- What a test finds: nothing where a rule is kept, else a fault at an offset.
+abbrev pub judged : Bool → ℕ → Checked
+judged kept at = cond kept (Ok tt) (fault at)
+
 -- The first rule of a list that a record breaks.
 unfoldable pub checked_by : List Rule → List ℕ → Checked
-checked_by [] s = Good
-checked_by (r ∷ rs) s = cond (holds s r) (checked_by rs s) (Bad (offset_of r))
+checked_by [] s = Ok tt
+checked_by (r ∷ rs) s = cond (holds s r) (checked_by rs s) (fault (offset_of r))
 
 -- The first rule of a list that a record breaks is one that is reported at k: "Checks go by offset."
 pub data FirstFault : List Rule → List ℕ → ℕ → Type 0 where
@@ -39,19 +49,3 @@ pub data FirstFault : List Rule → List ℕ → ℕ → Type 0 where
 -- What the check of a record finds.
 abbrev pub checked : List ℕ → Checked
 checked s = checked_by settings_table s
-
--- ---- the same rule by rule, as the code goes
-
--- What a test finds: nothing where a rule is kept, else a fault at an offset.
-abbrev pub judged : Bool → ℕ → Checked
-judged kept at = cond kept Good (Bad at)
-
--- What was found, with one rule more: a first fault stays.
-unfoldable pub after : Checked → List ℕ → Rule → Checked
-after (Bad k) s r = Bad k
-after Good s r = judged (holds s r) (offset_of r)
-
--- The same with a part of the table more.
-abbrev pub after_all : Checked → List ℕ → List Rule → Checked
-after_all found s [] = found
-after_all found s (r ∷ rs) = after_all (after found s r) s rs

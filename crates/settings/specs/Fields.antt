@@ -1,7 +1,9 @@
 -- Document 01, "Settings record": the fields by name, each where its row of the table says, and the range of each in every good record.
 use Rattle.std.specs.Prelude.{ℕ, ◌+◌, ◌*◌, ◌≤◌, ◌≡◌, ◌⊎◌, List, [], ◌∷◌, get_or, ℤ, ◌≤ℤ◌, ◌<ℤ◌}
+use Rattle.std.proofs.Common.{inl, inr, ap, arith}
+use Rattle.std.proofs.Props.{props}
 use Rattle.settings.specs.Record.{field_at, signed_at}
-use Rattle.settings.specs.Table.{Rule, Unsigned, Signed, Squares, Below, OffOrFrom, Byte, offset_of, ends_row, slope_row, pickup_row, replica_real_row, replica_imaginary_row, reach_row, k_real_row, k_imaginary_row, angle_real_row, angle_imaginary_row, angle_size_row, forward_limit_row, reverse_limit_row, limits_order_row, negative_sequence_pickup_row, second_reach_row, resistive_reach_row, spare_rows}
+use Rattle.settings.specs.Table.{most_reach, Rule, Unsigned, Signed, Squares, Below, OffOrFrom, Byte, offset_of, ends_row, slope_row, pickup_row, replica_real_row, replica_imaginary_row, reach_row, k_real_row, k_imaginary_row, angle_real_row, angle_imaginary_row, angle_size_row, forward_limit_row, reverse_limit_row, limits_order_row, negative_sequence_pickup_row, second_reach_row, resistive_reach_row, spare_rows}
 
 -- N, the ends of the line.
 abbrev pub ends : List ℕ → ℕ
@@ -104,3 +106,15 @@ pub record Ranges (s : List ℕ) : Type 0 where
   pub second_reach_range : Keeps s second_reach_row
   pub resistive_reach_range : Keeps s resistive_reach_row
   pub spare_bytes : AllKept spare_rows s
+
+-- ---- a record is in its ranges in one way only: so a struct may hold the fact
+
+-- A second reach that is off is not from the first one up, which is 1 at least.
+pub second_reach-prop : {low v : ℕ} → From 1 most_reach low → IsProp ((v ≡ 0) ⊎ From low most_reach v)
+second_reach-prop h (inl x) (inl y) = ap inl (hlevel props)
+second_reach-prop h (inl x) (inr y) = absurd (omega arith)
+second_reach-prop h (inr x) (inl y) = absurd (omega arith)
+second_reach-prop h (inr x) (inr y) = ap inr (hlevel props)
+
+pub Ranges-prop : (s : List ℕ) → IsProp (Ranges s)
+Ranges-prop s = hlevel (props, second_reach-prop)
