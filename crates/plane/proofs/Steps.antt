@@ -1,5 +1,5 @@
--- What the machine works out of numbers in range: every step fits, and is the number itself. One operation; the same operation on both
--- components of two complex numbers; and a sum or a difference of two products.
+-- What the machine works out of numbers in range: every step fits, and is the number itself. One operation; and a sum or a difference of two
+-- products.
 use mathlib.Core.Path.{◌≡◌}
 use Prim.Native.Nat.{ℕ, ◌+◌, ◌*◌, ◌^◌}
 use native.Mathlib.Omega.{arith}
@@ -33,20 +33,6 @@ sum = record { bound = add }
 
 pub difference : Bounded ◌-ℤ◌
 difference = record { bound = sub }
-
--- a sum or a difference of complex numbers
-pub record Parts (op : ℤ → ℤ → ℤ) (p q : Phasor) : Type 0 where
-  pub re : SFits w64 (op (Read p.re) (Read q.re)) × (Read (op (Read p.re) (Read q.re)) ≡ op p.re q.re)
-  pub im : SFits w64 (op (Read p.im) (Read q.im)) × (Read (op (Read p.im) (Read q.im)) ≡ op p.im q.im)
-
-pub parts :
-    {op : ℤ → ℤ → ℤ} {a b : ℕ} {p q : Phasor} → Bounded op → Inside a p × Inside b q →
-    T (ltb a (2 ^ 63)) → T (ltb b (2 ^ 63)) → T (ltb (a + b) (2 ^ 63)) → Parts op p q
-parts {op} o h ta tb t =
-    record {
-      re = step op (rd h.0.real ta) (rd h.1.real tb) (o.bound h.0.real h.1.real) t;
-      im = step op (rd h.0.imag ta) (rd h.1.imag tb) (o.bound h.0.imag h.1.imag) t;
-    }
 
 -- x y and z w, and then their sum or difference
 pub record Products (op : ℤ → ℤ → ℤ) (x y z w : ℤ) : Type 0 where

@@ -22,6 +22,7 @@ pub struct Phases<T> {
 }
 
 // p + q.
+#[tactic(auto, unfolding(crate::specs::Plane::plus))]
 pub fn plus(p: Phasor, q: Phasor) -> Phasor
     requires { Inside (2 ^ 61) p × Inside (2 ^ 61) q }
     ensures { result ≡ plus p q }
@@ -32,6 +33,7 @@ pub fn plus(p: Phasor, q: Phasor) -> Phasor
 }
 
 // p - q.
+#[tactic(auto, unfolding(crate::specs::Plane::minus))]
 pub fn minus(p: Phasor, q: Phasor) -> Phasor
     requires { Inside (2 ^ 61) p × Inside (2 ^ 61) q }
     ensures { result ≡ minus p q }
@@ -62,6 +64,7 @@ pub fn scaled(n: i64, p: Phasor) -> Phasor
 }
 
 // Each component rounded by d.
+#[tactic(auto, unfolding(crate::specs::Plane::rounded))]
 pub fn rounded(p: Phasor, d: i64) -> Phasor
     requires { (pos 0 <ℤ d) × Inside (2 ^ 62) p × Within (2 ^ 61) d }
     ensures { result ≡ rounded (nat_abs d) p }
@@ -72,6 +75,7 @@ pub fn rounded(p: Phasor, d: i64) -> Phasor
 }
 
 // -j p, which rounds nothing.
+#[tactic(auto, unfolding(crate::specs::Plane::minus_j))]
 pub fn minus_j(p: Phasor) -> Phasor
     requires { Inside (2 ^ 62) p }
     ensures { result ≡ minus_j p }
