@@ -18,7 +18,7 @@ use Rattle.samples.specs.Window.{numbers_of, first_missing}
 use Rattle.samples.proofs.Bytes.{held}
 use Rattle.samples.proofs.Missing.{first_at, first_nothing, is_first}
 use Rattle.settings.specs.Table.{settings_table}
-use Rattle.settings.specs.Check.{checked}
+use Rattle.settings.specs.Check.{Checked, checked}
 use Rattle.settings.proofs.Good.{fault_found, fault_is}
 use Rattle.entry.specs.Pair.{record_length}
 use Rattle.entry.specs.Entry.{of_difference}
