@@ -103,7 +103,8 @@ fn decide_by(s: Settings, window: &[i16], out: &mut [u8]) -> Answer
     if out.len() < LENGTH {
         return Err(Refusal::NoRoom);
     }
-    if let Some(k) = samples::first_missing(window) {
+    let channels = samples::channels(s.ends() as usize);
+    if let Some(k) = samples::first_missing(window, samples::FRAMES, channels) {
         return Err(Refusal::MissingSample(k as u16));
     }
     let record = decision(s, window);

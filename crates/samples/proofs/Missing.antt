@@ -7,10 +7,9 @@ use native.Mathlib.Nat.{le_of_suc-le-suc, not-suc-le-zero, lt_of_not-le, le_anti
 use native.Mathlib.Omega.{arith}
 use borrow.Author.Tests.{eqb-true}
 use lib.IntN.{ℤ, pos, negsuc}
-use lib.ListN.{length}
+use lib.ListN.{length, get_or}
 use Rattle.std.specs.Prelude.{Option, None, Some}
-use Rattle.std.specs.List.{AllWithin, HoldsAt}
-use Rattle.std.specs.Option.{MatchOption}
+use Rattle.std.specs.List.{AllWithin}
 use Rattle.std.specs.Ordering.{int_eq}
 use Rattle.samples.specs.Window.{missing_mark, same, missing_from, first_missing}
 use Rattle.samples.specs.Order.{Missing, NoneMissing, Finds, FirstInOrder}
@@ -90,20 +89,17 @@ is_first w r h = one w r (first_missing w) h (finds w)
 pub none_marked : (w : List ℤ) → AllWithin (λ x. int_eq x missing_mark ≡ false) w 0 (length w) → None ≡ first_missing w
 none_marked w h = is_first w None (λ k l m. let other = h k (pos 0) (omega arith) l in true≢false (rw m at other))
 
--- the first that is the mark is the first missing
-pub first_marked :
-    (w : List ℤ) (r : Option ℕ) →
-    MatchOption r (AllWithin (λ x. x ≡ missing_mark → ⊥) w 0 (length w))
-    (λ i. (i < length w) × HoldsAt (λ x. x ≡ missing_mark) w i × AllWithin (λ x. x ≡ missing_mark → ⊥) w 0 i) →
-    r ≡ first_missing w
-first_marked w None h = is_first w None (λ k l. h k (pos 0) (omega arith) l)
-first_marked w (Some i) h = is_first w (Some i) (h.0, h.1 (pos 0), λ k l. h.2 k (pos 0) (omega arith) l)
-
 -- ---- frame order, then channel order
 
 -- a place in an earlier frame is below where this frame begins
 pub earlier : (m g d f : ℕ) → g < f → d < m → g * m + d < f * m
 earlier m g d f h l = omega (arith, mul-le-mul_right m h)
+
+-- so a missing number at channel c of frame f, with none before it, is the first
+pub first_found :
+    (w : List ℤ) (n m f c : ℕ) → length w ≡ n * m → f < n → c < m → get_or w (f * m + c) (pos 0) ≡ missing_mark → NoneMissing w (f * m + c) →
+    Some (f * m + c) ≡ first_missing w
+first_found w n m f c l i j there before = is_first w (Some (f * m + c)) (omega (arith, earlier m f c n i j), there, before)
 
 -- the place that it gives, as a frame and a channel
 pub first_in_order : (m : ℕ) (w : List ℤ) (f c : ℕ) → c < m → first_missing w ≡ Some (f * m + c) → FirstInOrder m w f c

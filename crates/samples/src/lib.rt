@@ -45,14 +45,25 @@ pub fn numbers(bytes: &[u8], samples: &mut [i16])
     }
 }
 
-// The first missing sample of a window, frame by frame, and in a frame channel by channel. `contains` takes many numbers at a time and the
-// search takes one, so there is no search where none is missing.
+// The first missing sample of a window, frame by frame, and in a frame channel by channel: the loops that document 01 names for it.
+// `contains` takes many numbers at a time and the search takes one, so there is no search where none is missing.
 #[tactic(auto, using(crate::proofs::Missing::none_marked))]
-pub fn first_missing(window: &[i16]) -> Option<usize>
+pub fn first_missing(window: &[i16], frames: usize, channels: usize) -> Option<usize>
+    requires { length window.now ≡ frames * channels }
     ensures { result ≡ first_missing window.now }
 {
     if !window.contains(&MISSING) {
         return None;
     }
-    window.iter().position(|&x| x == MISSING)
+    let mut found = None;
+    'search: for f in 0..frames {
+        for c in 0..channels {
+            let at = f * channels + c;
+            if window[at] == MISSING {
+                found = Some(at);
+                break 'search;
+            }
+        }
+    }
+    found
 }
