@@ -1,5 +1,5 @@
 -- What a comparison's finding means: a difference lies inside and is the first; no difference is equality.
-use Prim.Native.Nat.{ℕ, zero, suc, ◌+◌, ◌-◌, ◌<◌, ◌≤◌}
+use Prim.Native.Nat.{ℕ, zero, suc, ◌+◌, ◌-◌, ◌≤◌}
 use mathlib.Core.Path.{◌≡◌, refl, ap, ap₂, ◌∙◌}
 use mathlib.Core.List.{List, [], ◌∷◌}
 use mathlib.Core.Bool.{Bool, true, false, cond, not}
@@ -9,25 +9,10 @@ use borrow.Author.Tests.{eq-eqb, ne_eqb, eqb-true, eqb-false}
 use lib.ListN.{length, take}
 use lib.Dec.{eqb}
 use Rattle.lent.specs.Lent.{differ_from, first_difference, FirstAt}
-use Rattle.std.specs.Prelude.{Option, Some, None, IfSome, ◌==◌}
+use Rattle.std.specs.Prelude.{Option, Some, None, ◌==◌}
 use Rattle.std.specs.List.{zip, position, position_from}
 use Rattle.std.proofs.lemmas.Iterator.Adapters.{position_from-zero}
 use native.Mathlib.Numerals.{add-one}
-
-differ_below : (j n : ℕ) (xs ys : List ℕ) → j + length xs ≤ n → IfSome (differ_from j xs ys) (λ k. k < n)
-unfolding differ_from
-differ_below j n [] ys h = tt
-differ_below j n (x ∷ xs) [] h = tt
-differ_below j n (x ∷ xs) (y ∷ ys) h = by_test (eqb x y) (differ_below (suc j) n xs ys (omega arith))
-  where
-    by_test : (b : Bool) → IfSome (differ_from (suc j) xs ys) (λ k. k < n) → IfSome (cond b (differ_from (suc j) xs ys) (Some j)) (λ k. k < n)
-    by_test true d = d
-    by_test false d = omega arith
-
--- a difference's place is inside
-pub difference_below : (n : ℕ) (xs ys : List ℕ) → length xs ≤ n → IfSome (first_difference xs ys) (λ k. k < n)
-unfolding first_difference
-difference_below n xs ys h = differ_below 0 n xs ys (omega arith)
 
 first_from : (j k : ℕ) (xs ys : List ℕ) → differ_from j xs ys ≡ Some k → (j ≤ k) × FirstAt xs ys (k - j)
 unfolding differ_from

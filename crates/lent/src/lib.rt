@@ -1,7 +1,7 @@
 // Work on lent bytes: what every write and every comparison goes through.
 #![tactic(auto)]
 
-ghost use Rattle.std.specs.Prelude.{◌≡◌, ◌+◌, ◌≤◌, length};
+ghost use Rattle.std.specs.Prelude.{◌≡◌, ◌+◌, ◌<◌, ◌≤◌, length, IfSome};
 ghost use Rattle.lent.specs.Lent.{over, first_difference};
 
 // Writes src over dst, from `at` on; what stands before and after stays.
@@ -15,7 +15,8 @@ pub fn put<T: Copy>(dst: &mut [T], at: usize, src: &[T])
 // The first place at which two slices of one length differ.
 pub fn first_difference(a: &[u8], b: &[u8]) -> Option<usize>
     requires { length a.now ≡ length b.now }
-    ensures { result ≡ first_difference a.now b.now }
+    ensures first { result ≡ first_difference a.now b.now }
+    ensures inside { IfSome result (λ k. k < length a.now) }
 {
     a.iter().zip(b).position(|(x, y)| x != y)
 }

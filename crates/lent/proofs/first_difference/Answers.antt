@@ -6,8 +6,8 @@ use borrow.Author.Tests.{tests}
 use Rattle.lent.proofs.Differences.{differ, difference_found}
 use Rattle.lent.proofs.first_difference.Goals as goal
 
-pub returns : goal.returns
-returns c =
+pub returns-clause-first : goal.returns-clause-first
+returns-clause-first c =
     difference_found c.args.a.now c.args.b.now (position_from_yields_List
     differ
     c.position.new.self
