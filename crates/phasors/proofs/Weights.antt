@@ -6,20 +6,22 @@ use Prim.Native.Nat.{ℕ, ◌+◌, ◌*◌, ◌/◌, ◌%◌, ◌^◌, ◌≤◌
 use native.Mathlib.Numerals.{add-one}
 use native.Mathlib.Omega.{arith}
 use lib.Dec.{T, leb, ltb}
-use lib.IntN.{ℤ, pos, nat_abs, ◌+ℤ◌}
+use lib.IntN.{ℤ, pos, nat_abs, ◌+ℤ◌, ◌-ℤ◌, ◌*ℤ◌}
 use lib.ListN.{length}
 use lib.Signed.{nat_abs-le}
-use mir.Syntax.{w16}
+use mir.Syntax.{w16, w64}
 use mir.Val.{SFits}
 use Rattle.whole.specs.Sizes.{Within}
 use Rattle.whole.specs.Round.{Rounded}
 use Rattle.whole.specs.Sum.{sum_of}
 use Rattle.whole.proofs.Sums.{sum_next as added}
-use Rattle.whole.proofs.Size.{neg, add, sub, mul, lit}
+use Rattle.whole.proofs.Machine.{Read}
+use Rattle.whole.proofs.Size.{neg, add, sub, mul, lit, rd}
 use Rattle.plane.specs.declared.Phasor.{Phasor}
 use Rattle.plane.specs.Plane.{NearTo, zero, rounded}
 use Rattle.plane.specs.Sizes.{Inside, phasor_size}
 use Rattle.plane.proofs.Bounds.{inside_rounded, inside_wider}
+use Rattle.plane.proofs.Steps.{step, product}
 use Rattle.plane.proofs.Laws.{rounded_is, rounded_near}
 use Rattle.samples.specs.Window.{frames}
 use Rattle.phasors.specs.Rate.{Rate, cosine, sine, sixteen}
@@ -37,6 +39,19 @@ sum_next coefficients shift x n = rw (add-one n)
 -- a sample or a coefficient lies within what an i16 holds
 pub fitted : {z : ℤ} → SFits w16 z → Within 32768 z
 fitted {z} f = record { size = nat_abs-le z f.sfits }
+
+-- and the product of two, added to a number or taken off it, as the machine works it out of x and y, which are u and v
+module _ {z x y u v : ℤ} (h : Within (2 ^ 62) z) (f : SFits w16 u) (g : SFits w16 v) (d : x ≡ u) (e : y ≡ v) where
+  times_is : Read (Read x *ℤ Read y) ≡ u *ℤ v
+  times_is = rw (d, e) ((product (fitted f) (fitted g) tt tt tt).1)
+
+  pub product_added :
+      SFits w64 (Read z +ℤ Read (Read x *ℤ Read y)) × (Read (Read z +ℤ Read (Read x *ℤ Read y)) ≡ z +ℤ u *ℤ v)
+  product_added = step ◌+ℤ◌ (rd h tt) times_is (add h (mul (fitted f) (fitted g))) tt
+
+  pub product_taken_off :
+      SFits w64 (Read z -ℤ Read (Read x *ℤ Read y)) × (Read (Read z -ℤ Read (Read x *ℤ Read y)) ≡ z -ℤ u *ℤ v)
+  product_taken_off = step ◌-ℤ◌ (rd h tt) times_is (sub h (mul (fitted f) (fitted g))) tt
 
 pub summed_none : (coefficients : List ℤ) (shift : ℕ) (x : ℕ → ℤ) → Summed coefficients shift x 0 zero
 unfolding sum_to sum_of
@@ -123,3 +138,11 @@ sixteen_frames = refl
 pub sixteen_measures : Measures sixteen 164736
 unfolding sum_of
 sixteen_measures = record { real = omega arith; imag = omega arith; above = tt; small = tt }
+
+-- what is rounded, and what comes of it
+pub sixteen_inside : {x : ℕ → ℤ} {sums : Phasor} → Cycle sixteen x sums → Inside (2 ^ 62) sums
+sixteen_inside h = inside_wider (inside_cycle sixteen_measures h) tt
+
+pub sixteen_rounded :
+    {x : ℕ → ℤ} {sums r : Phasor} → Cycle sixteen x sums → r ≡ rounded 131072 sums → (r ≡ phasor_of sixteen x) × Inside phasor_size r
+sixteen_rounded h e = rw e (rounded_cycle sixteen_measures h)

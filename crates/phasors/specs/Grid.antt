@@ -20,11 +20,11 @@ abbrev pub exact_current : Rate → List ℤ → ℕ → ℕ → ℕ → Phasor
 exact_current rate w ends p e = exact rate (sample w (channels ends) (3 + 3 * e + p))
 
 -- A quantity of each phase, as three
-abbrev pub by_phase : (ℕ → Phasor) → Phases
+abbrev pub by_phase : (ℕ → Phasor) → Phases Phasor
 by_phase f = record { a = f 0; b = f 1; c = f 2 }
 
 -- Va, Vb, Vc
-abbrev pub voltages_of : Rate → List ℤ → ℕ → Phases
+abbrev pub voltages_of : Rate → List ℤ → ℕ → Phases Phasor
 voltages_of rate w ends = by_phase (voltage rate w ends)
 
 -- What stands in a grid at a phase and an end
@@ -32,11 +32,11 @@ abbrev pub cell : List (List Phasor) → ℕ → ℕ → Phasor
 cell g p e = get_or (get_or g p []) e plane.zero
 
 -- Ia, Ib, Ic of end 1, in a window
-abbrev pub local_currents : Rate → List ℤ → ℕ → Phases
+abbrev pub local_currents : Rate → List ℤ → ℕ → Phases Phasor
 local_currents rate w ends = by_phase (λ p. current rate w ends p 0)
 
 -- and in a grid
-abbrev pub local_of : List (List Phasor) → Phases
+abbrev pub local_of : List (List Phasor) → Phases Phasor
 local_of g = by_phase (λ p. cell g p 0)
 
 -- f 0 + .. + f (n - 1)

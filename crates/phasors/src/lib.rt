@@ -11,8 +11,8 @@ ghost use Rattle.phasors.specs.Grid.{Filled, local_of, voltages_of};
 
 use plane::{Phases, Phasor};
 
-// The cosines at scale 16384.
-const COSINES: [i16; 16] = [
+// The cosines at scale 16384. A static, since a constant table that is indexed is built anew at each read.
+static COSINES: [i16; 16] = [
     16384, 15137, 11585, 6270, 0, -6270, -11585, -15137, -16384, -15137, -11585, -6270, 0, 6270,
     11585, 15137,
 ];
@@ -23,20 +23,15 @@ const SHIFT: usize = 12;
 // By what the sums are rounded.
 const DIVISOR: i64 = 131072;
 
-// The table as a value, to lend: a table that is indexed where it stands is built anew at each read.
-fn cosines() -> [i16; 16]
-    ensures { result ≡ cosines }
-{
-    COSINES
-}
-
 // The sums with one sample more: x C to the real part, -x S to the imaginary.
+#[tactic(auto, unfolding(crate::specs::Sums::with_sample))]
 fn with_sample(sums: Phasor, x: i16, c: i16, s: i16) -> Phasor
     requires { Inside (2 ^ 62) sums }
     ensures { result ≡ with_sample sums x c s }
 {
-    let re = sums.re + (x as i64) * (c as i64);
-    let im = sums.im - (x as i64) * (s as i64);
+    let x = i64::from(x);
+    let re = sums.re + x * i64::from(c);
+    let im = sums.im - x * i64::from(s);
     Phasor { re, im }
 }
 
@@ -52,13 +47,9 @@ fn sums(
     ensures { Summed coefficients.now shift (sample window.now channels channel) (length coefficients.now) result }
 {
     let mut sums = Phasor { re: 0, im: 0 };
-    for n in 0..coefficients.len() {
-        sums = with_sample(
-            sums,
-            window[n * channels + channel],
-            coefficients[n],
-            coefficients[(n + shift) % coefficients.len()],
-        );
+    for (n, &c) in coefficients.iter().enumerate() {
+        let s = coefficients[(n + shift) % coefficients.len()];
+        sums = with_sample(sums, window[n * channels + channel], c, s);
     }
     sums
 }
@@ -68,23 +59,20 @@ pub fn measure(window: &[i16], channels: usize, channel: usize) -> Phasor
     requires { (channel < channels) × (16 * channels ≤ length window.now) }
     ensures { (result ≡ phasor_of sixteen (sample window.now channels channel)) × Inside phasor_size result }
 {
-    let coefficients = cosines();
-    plane::rounded(
-        sums(window, channels, channel, &coefficients, SHIFT),
-        DIVISOR,
-    )
+    plane::rounded(sums(window, channels, channel, &COSINES, SHIFT), DIVISOR)
 }
 
 // Va, Vb, Vc.
-pub fn voltages(window: &[i16], ends: usize) -> Phases
+pub fn voltages(window: &[i16], ends: usize) -> Phases<Phasor>
     requires { (ends ≤ 6) × (window_length ends ≤ length window.now) }
     ensures { (result ≡ voltages_of sixteen window.now ends) × AllInside phasor_size result }
 {
     let channels = samples::channels(ends);
-    let a = measure(window, channels, 0);
-    let b = measure(window, channels, 1);
-    let c = measure(window, channels, 2);
-    Phases { a, b, c }
+    Phases {
+        a: measure(window, channels, 0),
+        b: measure(window, channels, 1),
+        c: measure(window, channels, 2),
+    }
 }
 
 // The currents of all ends, phase by end.
@@ -103,11 +91,13 @@ pub fn currents(window: &[i16], ends: usize) -> [[Phasor; 6]; 3]
 }
 
 // Ia, Ib, Ic of end 1.
-pub fn local(grid: [[Phasor; 6]; 3]) -> Phases
+pub fn local(grid: [[Phasor; 6]; 3]) -> Phases<Phasor>
     ensures { result ≡ local_of grid }
 {
-    let a = grid[0][0];
-    let b = grid[1][0];
-    let c = grid[2][0];
-    Phases { a, b, c }
+    let [a, b, c] = grid;
+    Phases {
+        a: a[0],
+        b: b[0],
+        c: c[0],
+    }
 }

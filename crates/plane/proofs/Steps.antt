@@ -14,7 +14,7 @@ use Rattle.plane.specs.declared.Phasor.{Phasor}
 use Rattle.plane.specs.Sizes.{Inside, Multiply}
 
 -- an operation on u and v, which the machine has as x and y
-step :
+pub step :
     (op : ℤ → ℤ → ℤ) {n : ℕ} {x y u v : ℤ} → x ≡ u → y ≡ v → Within n (op u v) → T (ltb n (2 ^ 63)) →
     SFits w64 (op x y) × (Read (op x y) ≡ op u v)
 step op e f p t = rw (e, f) (fit p t, rd p t)
