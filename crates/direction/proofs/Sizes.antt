@@ -1,12 +1,12 @@
 -- How large each quantity of the direction is, from the ranges of a good settings record and of phasors within 42000 of zero. So nothing
 -- exceeds 64 bits.
 use mathlib.Core.Path.{◌≡◌}
-use mathlib.Core.List.{List}
-use Prim.Native.Nat.{ℕ}
 use lib.IntN.{ℤ, pos, ◌*ℤ◌}
+use mir.Syntax.{w64}
+use mir.Val.{SFits}
 use mir.Facts.{to_z-of_z}
 use Rattle.whole.specs.Sizes.{Within}
-use Rattle.whole.proofs.Size.{lit, wider}
+use Rattle.whole.proofs.Size.{lit}
 use Rattle.plane.specs.declared.Phasor.{Phasor}
 use Rattle.plane.specs.declared.Phases.{Phases}
 use Rattle.plane.specs.Plane.{plus, times, scaled}
@@ -14,19 +14,9 @@ use Rattle.plane.specs.Sizes.{Inside, AllInside, phasor_size}
 use Rattle.whole.proofs.Machine.{Read}
 use Rattle.plane.proofs.Steps.{product}
 use Rattle.plane.proofs.Bounds.{inside_plus, inside_factor, inside_scaled, inside_rounded, inside_wider}
-use Rattle.settings.specs.Table.{most_angle, most_limit}
-use Rattle.settings.specs.Fields.{Ranges}
-use Rattle.settings.proofs.Sizes.{from}
+use Rattle.settings.specs.Table.{most_limit}
 use Rattle.direction.specs.Sequence.{scale, turned, sequence}
-use Rattle.direction.specs.Direction.{angle}
 use Rattle.direction.specs.Sizes.{Turn, sequence_size, polarising_size, square_size}
-
--- D
-pub angle_inside : {s : List ℕ} → Ranges s → Inside most_angle (angle s)
-angle_inside h = record { real = from h.angle_real_range; imag = from h.angle_imaginary_range }
-
-pub turn_inside : {f : Phasor} → Turn f → Inside 14189 f
-turn_inside t = record { real = wider t.real tt; imag = t.imag }
 
 -- 3V1, 3V2 and 3I2: the first two terms, all three, and what they are rounded to
 module _ {f g : Phasor} {x : Phases Phasor} (p : Turn f) (q : Turn g) (h : AllInside phasor_size x) where
@@ -45,8 +35,12 @@ pub turned_inside : {f p : Phasor} → Turn f → Inside sequence_size p → Ins
 unfolding turned
 turned_inside f p = inside_wider (inside_rounded scale tt (inside_factor f.real f.imag p)) tt
 
--- zf |3I2|² and zr |3I2|², as the machine works them out
-pub limit_square : {z q : ℤ} → Within most_limit z → Within square_size q → Read (Read z *ℤ Read q) ≡ z *ℤ q
-limit_square z q = (product z q tt tt tt).1
+-- zf |3I2|² and zr |3I2|²: the machine's product fits, and is the product
+module _ {z q : ℤ} (h : Within most_limit z) (k : Within square_size q) where
+  pub limit_square_fits : SFits w64 (Read z *ℤ Read q)
+  limit_square_fits = (product h k tt tt tt).0
 
-pub ruleset limits = (to_z-of_z, limit_square)
+  pub limit_square : Read (Read z *ℤ Read q) ≡ z *ℤ q
+  limit_square = (product h k tt tt tt).1
+
+pub ruleset limits = (to_z-of_z, limit_square_fits, limit_square)

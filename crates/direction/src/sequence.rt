@@ -1,7 +1,7 @@
 // Sequence quantities, source document 002: 3V1, 3V2 and 3I2, formed at scale 16384 and rounded by it.
 ghost use Rattle.std.specs.Prelude.{◌≡◌};
 ghost use Rattle.plane.specs.Sizes.{Inside, AllInside, phasor_size};
-ghost use Rattle.direction.specs.Sequence.{a, a², turned, sequence, positive_sequence, negative_sequence};
+ghost use Rattle.direction.specs.Sequence.{turned, sequence, positive_sequence, negative_sequence};
 ghost use Rattle.direction.specs.Sizes.{sequence_size, polarising_size, Turn};
 
 use plane::{Phases, Phasor};

@@ -7,12 +7,15 @@ use Rattle.settings.proofs.Sizes.{forward_within, reverse_within}
 use Rattle.direction.specs.Direction.{direction_of}
 use Rattle.direction.proofs.of_fault.Goals as goal
 
+ruleset limits_within = (forward_within, reverse_within)
+
 pub side-requires : goal.side-requires
 side-requires c =
-    let f = forward_within c.args.s.good in
-    let r = reverse_within c.args.s.good in
+    let f = rd (forward_within c.args.s.good) tt in
+    let r = rd (reverse_within c.args.s.good) tt in
     let q = within_dot c.requires.1 c.requires.1 in
-    rw (c.forward_limit-zf.ensures, c.reverse_limit-zr.ensures, c.square.ensures) (simp (rd f tt, rd r tt, rd q tt) (f, r, wider q tt))
+    rw (c.forward_limit-zf.ensures, c.reverse_limit-zr.ensures, c.square.ensures)
+    (simp (f, r, rd q tt) (search limits_within, search limits_within, wider q tt))
 
 pub returns : goal.returns
 unfolding direction_of

@@ -3,6 +3,7 @@ use mathlib.Core.Path.{refl}
 use lib.IntN.{pos}
 use lib.Signed.{lt_z_yes}
 use Rattle.whole.proofs.Size.{lit, wider}
+use Rattle.plane.specs.Sizes.{phasor_size}
 use Rattle.plane.proofs.Bounds.{inside_factor, inside_scaled, inside_wider}
 use Rattle.direction.specs.Sequence.{sequence, scale}
 use Rattle.direction.proofs.Sizes.{two_inside, three_inside, sequence_inside}
@@ -18,7 +19,7 @@ pub plus-requires-2 : goal.plus-requires-2
 plus-requires-2 c =
     let h = c.requires in
     rw (c.plus.ensures, c.scaled-first.ensures, c.times-second.ensures, c.times-third.ensures)
-    (inside_wider (two_inside h.0 h.1 h.2) tt, inside_wider (inside_factor h.1.real h.1.imag h.2.inside_c) tt)
+    (inside_wider (two_inside h.0 h.1 h.2) tt, inside_wider (inside_factor {c = phasor_size} h.1.real h.1.imag (search)) tt)
 
 pub rounded-requires : goal.rounded-requires
 rounded-requires c =
