@@ -1,14 +1,16 @@
-// The numbers given back (document 01, "Numbers given back"; 9 and 10 are of document 02, CR 1, and 11 to 13 of CR 5): each answer by name,
-// and the one number that C gets.
+// The numbers given back (document 01, "Numbers given back"; 9 and 10 are of document 02, CR 1, and 11 to 13 of CR 5): each refusal by
+// name, and the one number that C gets.
 #![tactic(auto)]
 
-ghost use Rattle.std.specs.Prelude.{◌≡◌, ◌<◌};
-ghost use Rattle.answers.specs.Answers.{number, place, given_back, number_in, place_in, is_done};
+ghost use Rattle.std.specs.Prelude.{◌≡◌, ◌<◌, Err};
+ghost use Rattle.answers.specs.Answers.{number, place, given_back, number_in, place_in};
 
-// Each answer of the table. A place is an index in a window, an offset in a settings record, or the index of a record in an event file.
-#[derive(Clone, Copy)]
-pub enum Answer {
-    Done,
+// What a call answers: done, or why it is refused.
+pub type Answer = Result<(), Refusal>;
+
+// Each refusal of the table. A place is an index in a window, an offset in a settings record, or the index of a record in an event file.
+#[derive(Clone, Copy, PartialEq, Eq)]
+pub enum Refusal {
     NoSettings,
     OtherWindowLength,
     NoRoom,
@@ -55,57 +57,41 @@ pub const BAD_FILE: u64 = 13;
 
 pub const NO_RELAY: u64 = 17;
 
-// The number of an answer.
-fn number(a: Answer) -> u64
-    ensures { (result ≡ number a) × (result < 256) }
-{
-    match a {
-        Answer::Done => DONE,
-        Answer::NoSettings => NO_SETTINGS,
-        Answer::OtherWindowLength => OTHER_WINDOW_LENGTH,
-        Answer::NoRoom => NO_ROOM,
-        Answer::MissingSample(_) => MISSING_SAMPLE,
-        Answer::OtherEntryLength => OTHER_ENTRY_LENGTH,
-        Answer::OutOfRange(_) => OUT_OF_RANGE,
-        Answer::NothingPending => NOTHING_PENDING,
-        Answer::Differs(_) => DIFFERS,
-        Answer::OtherFrameLength => OTHER_FRAME_LENGTH,
-        Answer::TooFewFrames => TOO_FEW_FRAMES,
-        Answer::InsideRecord(_) => INSIDE_RECORD,
-        Answer::OtherNumber(_) => OTHER_NUMBER,
-        Answer::BadFile => BAD_FILE,
-        Answer::NoRelay => NO_RELAY,
+impl Refusal {
+    // Its number.
+    fn number(self) -> u64
+        ensures equals { result ≡ number (Err self) }
+        ensures below_place { result < 256 }
+    {
+        match self {
+            Refusal::NoSettings => NO_SETTINGS,
+            Refusal::OtherWindowLength => OTHER_WINDOW_LENGTH,
+            Refusal::NoRoom => NO_ROOM,
+            Refusal::MissingSample(_) => MISSING_SAMPLE,
+            Refusal::OtherEntryLength => OTHER_ENTRY_LENGTH,
+            Refusal::OutOfRange(_) => OUT_OF_RANGE,
+            Refusal::NothingPending => NOTHING_PENDING,
+            Refusal::Differs(_) => DIFFERS,
+            Refusal::OtherFrameLength => OTHER_FRAME_LENGTH,
+            Refusal::TooFewFrames => TOO_FEW_FRAMES,
+            Refusal::InsideRecord(_) => INSIDE_RECORD,
+            Refusal::OtherNumber(_) => OTHER_NUMBER,
+            Refusal::BadFile => BAD_FILE,
+            Refusal::NoRelay => NO_RELAY,
+        }
     }
-}
 
-// Its place: the index or the offset where the table has one, else 0.
-fn place(a: Answer) -> u32
-    ensures { result ≡ place a }
-{
-    match a {
-        Answer::Done => 0,
-        Answer::NoSettings => 0,
-        Answer::OtherWindowLength => 0,
-        Answer::NoRoom => 0,
-        Answer::MissingSample(at) => at as u32,
-        Answer::OtherEntryLength => 0,
-        Answer::OutOfRange(at) => at as u32,
-        Answer::NothingPending => 0,
-        Answer::Differs(at) => at as u32,
-        Answer::OtherFrameLength => 0,
-        Answer::TooFewFrames => 0,
-        Answer::InsideRecord(at) => at,
-        Answer::OtherNumber(at) => at,
-        Answer::BadFile => 0,
-        Answer::NoRelay => 0,
+    // Its place: the index or the offset where the table has one, else 0.
+    fn place(self) -> u32
+        ensures { result ≡ place (Err self) }
+    {
+        match self {
+            Refusal::MissingSample(at) => u32::from(at),
+            Refusal::OutOfRange(at) | Refusal::Differs(at) => u32::from(at),
+            Refusal::InsideRecord(at) | Refusal::OtherNumber(at) => at,
+            _ => 0,
+        }
     }
-}
-
-// Done, or refused.
-pub fn is_done(a: Answer) -> bool
-    ensures { result ≡ is_done a }
-{
-    number(a) == DONE
 }
 
 // What a place counts in what C gets.
@@ -115,8 +101,10 @@ const PLACE_WEIGHT: u64 = 256;
 pub fn given_back(a: Answer) -> u64
     ensures { result ≡ given_back a }
 {
-    let at = place(a);
-    PLACE_WEIGHT * (at as u64) + number(a)
+    match a {
+        Ok(()) => DONE,
+        Err(refusal) => PLACE_WEIGHT * u64::from(refusal.place()) + refusal.number(),
+    }
 }
 
 // The number in what C gets.

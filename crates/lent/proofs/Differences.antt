@@ -1,48 +1,28 @@
 -- What a comparison's finding means: a difference lies inside and is the first; no difference is equality.
-use Prim.Native.Nat.{ℕ, zero, suc, ◌+◌, ◌-◌, ◌<◌, ◌≤◌}
-use mathlib.Core.Path.{◌≡◌, refl, sym, ap, ap₂, ◌∙◌}
+use Prim.Native.Nat.{ℕ, zero, suc, ◌+◌, ◌-◌, ◌≤◌}
+use mathlib.Core.Path.{◌≡◌, refl, ap, ap₂, ◌∙◌}
 use mathlib.Core.List.{List, [], ◌∷◌}
-use mathlib.Core.Bool.{Bool, true, false, cond}
+use mathlib.Core.Bool.{Bool, true, false, cond, not}
 use native.Mathlib.Nat.{sub-zero}
 use native.Mathlib.Omega.{arith}
 use borrow.Author.Tests.{eq-eqb, ne_eqb, eqb-true, eqb-false}
 use lib.ListN.{length, take}
 use lib.Dec.{eqb}
 use Rattle.lent.specs.Lent.{differ_from, first_difference, FirstAt}
-use Rattle.lent.specs.declared.Agreement.{Agreement}
-use Rattle.lent.specs.declared.Agreement.TheVariants.{Same, Differ}
+use Rattle.std.specs.Prelude.{Option, Some, None, ◌==◌}
+use Rattle.std.specs.List.{zip, position, position_from}
+use Rattle.std.proofs.lemmas.Iterator.Adapters.{position_from-zero}
+use native.Mathlib.Numerals.{add-one}
 
--- A difference's place is below a bound.
-abbrev pub Below : ℕ → Agreement → Type 0
-Below n Same = Unit {0}
-Below n (Differ k) = k < n
-
-differ_below : (j n : ℕ) (xs ys : List ℕ) → j + length xs ≤ n → Below n (differ_from j xs ys)
+first_from : (j k : ℕ) (xs ys : List ℕ) → differ_from j xs ys ≡ Some k → (j ≤ k) × FirstAt xs ys (k - j)
 unfolding differ_from
-differ_below j n [] ys h = tt
-differ_below j n (x ∷ xs) [] h = tt
-differ_below j n (x ∷ xs) (y ∷ ys) h = by_test (eqb x y) (differ_below (suc j) n xs ys (omega arith))
-  where
-    by_test : (b : Bool) → Below n (differ_from (suc j) xs ys) → Below n (cond b (differ_from (suc j) xs ys) (Differ j))
-    by_test true d = d
-    by_test false d = omega arith
-
-pub difference_below : (n : ℕ) (xs ys : List ℕ) → length xs ≤ n → Below n (first_difference xs ys)
-unfolding first_difference
-difference_below n xs ys h = differ_below 0 n xs ys (omega arith)
-
-differ_not_same : (k : ℕ) → Differ k ≡ Same → ⊥
-differ_not_same k e = let z : ◌≡◌ {A = ℕ} 0 1 = cc in omega arith
-
-first_from : (j k : ℕ) (xs ys : List ℕ) → differ_from j xs ys ≡ Differ k → (j ≤ k) × FirstAt xs ys (k - j)
-unfolding differ_from
-first_from j k [] ys e = absurd (differ_not_same k (sym e))
-first_from j k (x ∷ xs) [] e = absurd (differ_not_same k (sym e))
+first_from j k [] ys e = absurd cc
+first_from j k (x ∷ xs) [] e = absurd cc
 first_from j k (x ∷ xs) (y ∷ ys) e = by_test (eqb x y) refl (λ d. first_from (suc j) k xs ys d) e
   where
     by_test :
-        (b : Bool) → eqb x y ≡ b → (differ_from (suc j) xs ys ≡ Differ k → (suc j ≤ k) × FirstAt xs ys (k - suc j)) →
-        cond b (differ_from (suc j) xs ys) (Differ j) ≡ Differ k → (j ≤ k) × FirstAt (x ∷ xs) (y ∷ ys) (k - j)
+        (b : Bool) → eqb x y ≡ b → (differ_from (suc j) xs ys ≡ Some k → (suc j ≤ k) × FirstAt xs ys (k - suc j)) →
+        cond b (differ_from (suc j) xs ys) (Some j) ≡ Some k → (j ≤ k) × FirstAt (x ∷ xs) (y ∷ ys) (k - j)
     by_test true t rest e =
         let r = rest e in
         let n : k - j ≡ suc (k - suc j) = omega (arith, r.0) in
@@ -52,49 +32,70 @@ first_from j k (x ∷ xs) (y ∷ ys) e = by_test (eqb x y) refl (λ d. first_fro
         let z : k - j ≡ 0 = omega arith in
         (omega arith, rw z (record { before = refl; there = eqb-false x y t }))
 
-pub difference_first : (k : ℕ) (xs ys : List ℕ) → first_difference xs ys ≡ Differ k → FirstAt xs ys k
+pub difference_first : (k : ℕ) (xs ys : List ℕ) → first_difference xs ys ≡ Some k → FirstAt xs ys k
 unfolding first_difference
 difference_first k xs ys e = rw (sub-zero k) at (first_from 0 k xs ys e).1
 
-first_is : (j k : ℕ) (xs ys : List ℕ) → length xs ≡ length ys → FirstAt xs ys k → differ_from j xs ys ≡ Differ (j + k)
+first_is : (j k : ℕ) (xs ys : List ℕ) → length xs ≡ length ys → FirstAt xs ys k → differ_from j xs ys ≡ Some (j + k)
 unfolding differ_from
 first_is j k [] [] l f = absurd (f.there refl)
-first_is j k [] (y ∷ ys) l f = let z : ⊥ = omega arith in absurd z
-first_is j k (x ∷ xs) [] l f = let z : ⊥ = omega arith in absurd z
-first_is j zero (x ∷ xs) (y ∷ ys) l f = rw (ne_eqb x y f.there) (ap Differ (omega arith))
+first_is j k [] (y ∷ ys) l f = absurd (omega arith)
+first_is j k (x ∷ xs) [] l f = absurd (omega arith)
+first_is j zero (x ∷ xs) (y ∷ ys) l f = rw (ne_eqb x y f.there) (ap Some (omega arith))
 first_is j (suc k) (x ∷ xs) (y ∷ ys) l f =
     let before = f.before in
     let heads : x ≡ y = cc in
     let tails : take k xs ≡ take k ys = cc in
-    rw (eq-eqb x y heads) (first_is (suc j) k xs ys (omega arith) (record { before = tails; there = f.there }) ∙ ap Differ (omega arith))
+    rw (eq-eqb x y heads) (first_is (suc j) k xs ys (omega arith) (record { before = tails; there = f.there }) ∙ ap Some (omega arith))
 
 -- and the other way, for two lists of one length
-pub first_difference_lem : (k : ℕ) (xs ys : List ℕ) → length xs ≡ length ys → FirstAt xs ys k → first_difference xs ys ≡ Differ k
+pub first_difference_lem : (k : ℕ) (xs ys : List ℕ) → length xs ≡ length ys → FirstAt xs ys k → first_difference xs ys ≡ Some k
 unfolding first_difference
-first_difference_lem k xs ys l f = first_is 0 k xs ys l f ∙ ap Differ (omega arith)
+first_difference_lem k xs ys l f = first_is 0 k xs ys l f ∙ ap Some (omega arith)
 
-same_from : (j : ℕ) (xs ys : List ℕ) → length xs ≡ length ys → differ_from j xs ys ≡ Same → xs ≡ ys
+same_from : (j : ℕ) (xs ys : List ℕ) → length xs ≡ length ys → differ_from j xs ys ≡ None → xs ≡ ys
 unfolding differ_from
 same_from j [] [] l e = refl
-same_from j [] (y ∷ ys) l e = let z : ⊥ = omega arith in absurd z
-same_from j (x ∷ xs) [] l e = let z : ⊥ = omega arith in absurd z
+same_from j [] (y ∷ ys) l e = absurd (omega arith)
+same_from j (x ∷ xs) [] l e = absurd (omega arith)
 same_from j (x ∷ xs) (y ∷ ys) l e = by_test (eqb x y) refl (same_from (suc j) xs ys (omega arith)) e
   where
-    by_test : (b : Bool) → eqb x y ≡ b → (differ_from (suc j) xs ys ≡ Same → xs ≡ ys) → cond b (differ_from (suc j) xs ys) (Differ j) ≡ Same → x ∷ xs ≡ y ∷ ys
+    by_test : (b : Bool) → eqb x y ≡ b → (differ_from (suc j) xs ys ≡ None → xs ≡ ys) → cond b (differ_from (suc j) xs ys) (Some j) ≡ None → x ∷ xs ≡ y ∷ ys
     by_test true t same e = ap₂ ◌∷◌ (eqb-true x y t) (same e)
-    by_test false t same e = absurd (differ_not_same j e)
+    by_test false t same e = absurd cc
 
 -- two lists of one length with no difference are the same list
-pub difference_same : (xs ys : List ℕ) → length xs ≡ length ys → first_difference xs ys ≡ Same → xs ≡ ys
+pub difference_same : (xs ys : List ℕ) → length xs ≡ length ys → first_difference xs ys ≡ None → xs ≡ ys
 unfolding first_difference
 difference_same xs ys l e = same_from 0 xs ys l e
 
-same_self : (j : ℕ) (xs : List ℕ) → differ_from j xs xs ≡ Same
+same_self : (j : ℕ) (xs : List ℕ) → differ_from j xs xs ≡ None
 unfolding differ_from
 same_self j [] = refl
 same_self j (x ∷ xs) = rw (eq-eqb x x refl) (same_self (suc j) xs)
 
 -- and a list does not differ from itself
-pub difference_self : (xs : List ℕ) → first_difference xs xs ≡ Same
+pub difference_self : (xs : List ℕ) → first_difference xs xs ≡ None
 unfolding first_difference
 difference_self xs = same_self 0 xs
+
+-- that two numbers, one from each list, are not the same
+abbrev pub differ : ℕ × ℕ → Bool
+differ p = not (p.0 == p.1)
+
+found_from : (k : ℕ) (xs ys : List ℕ) → position_from differ k (zip xs ys) ≡ differ_from k xs ys
+unfolding differ_from
+found_from k [] ys = refl
+found_from k (x ∷ xs) [] = refl
+found_from k (x ∷ xs) (y ∷ ys) = by_test (eqb x y) (rw (add-one k) (found_from (suc k) xs ys))
+  where
+    by_test :
+        (b : Bool) → position_from differ (k + 1) (zip xs ys) ≡ differ_from (suc k) xs ys →
+        cond (not b) (Some k) (position_from differ (k + 1) (zip xs ys)) ≡ cond b (differ_from (suc k) xs ys) (Some k)
+    by_test true rest = rest
+    by_test false rest = refl
+
+-- the first pair of different numbers stands where the lists first differ
+pub difference_found : (xs ys : List ℕ) {r : Option ℕ} → r ≡ position differ (zip xs ys) → r ≡ first_difference xs ys
+unfolding first_difference
+difference_found xs ys e = e ∙ position_from-zero differ (zip xs ys) ∙ found_from 0 xs ys

@@ -1,5 +1,4 @@
--- What belongs to no one function: one turn of each loop, and laws of what is written and compared.
+-- What belongs to no one function: laws of what is written and compared.
 pub mod Every
-pub mod Turns
 pub mod Over
 pub mod Differences

@@ -10,7 +10,7 @@ use lib.ListN.{length, take, drop, set, get_or, get_or-append, length-append, le
 use lib.Seq.{sets-eq, paste-zero, get_or-take, get_or-append-add, length-take-le, take_at, drop_at, drop-drop, take-take, take-add, take-append_seam, drop-append-add}
 use Rattle.lent.specs.Lent.{over}
 
-module _ (d : List ℕ) (at : ℕ) (x : List ℕ) (room : at ≤ length d) where
+module _ {A : Type 0} (d : List A) (at : ℕ) (x : List A) (room : at ≤ length d) where
   -- up to the part's end
   front_length : length (take at d ++ x) ≡ at + length x
   front_length = length-append (take at d) x ∙ ap (λ (n : ℕ). n + length x) (length-take-le at d room)
@@ -31,39 +31,40 @@ module _ (d : List ℕ) (at : ℕ) (x : List ℕ) (room : at ≤ length d) where
   over_behind n = rw (← front_length, drop-append-add, front_length) (drop-drop n (at + length x) d)
 
   -- a second part right behind the first is one longer part
-  pub over_over : (y : List ℕ) → over (over d at x) (at + length x) y ≡ over d at (x ++ y)
+  pub over_over : (y : List A) → over (over d at x) (at + length x) y ≡ over d at (x ++ y)
   over_over y = rw (over_behind (length y), take_at (take at d ++ x) (drop (at + length x) d) (at + length x) front_length) (rw (length-append x y, ← add_assoc, ← append_assoc))
 
   -- the part, read again
   pub over_read : take (length x) (drop at (over d at x)) ≡ x
   over_read = ap (take (length x)) over_from ∙ take-append_seam x (drop (at + length x) d)
 
+module _ (d : List ℕ) (at : ℕ) (x : List ℕ) (room : at ≤ length d) where
   -- a byte before the part, and one of it
   pub byte_before : (k : ℕ) → k < at → get_or (over d at x) k 0 ≡ get_or d k 0
   byte_before k l =
-      ap (λ (t : List ℕ). get_or t k 0) whole ∙
+      ap (λ (t : List ℕ). get_or t k 0) (whole d at x room) ∙
       get_or-append (take at d) (x ++ drop (at + length x) d) 0 k (omega (arith, length-take-le at d room)) ∙
       get_or-take at d k 0 l
 
   pub byte_in : (k : ℕ) → k < length x → get_or (over d at x) (at + k) 0 ≡ get_or x k 0
   byte_in k l =
-      ap (λ (t : List ℕ). get_or t (at + k) 0) whole ∙
+      ap (λ (t : List ℕ). get_or t (at + k) 0) (whole d at x room) ∙
       ap (λ (n : ℕ). get_or (take at d ++ (x ++ drop (at + length x) d)) (n + k) 0) (sym (length-take-le at d room)) ∙
       get_or-append-add (take at d) (x ++ drop (at + length x) d) k 0 ∙
       get_or-append x (drop (at + length x) d) 0 k l
 
 -- a part that has room leaves the length
-pub over_length : (d : List ℕ) (at : ℕ) (x : List ℕ) → at + length x ≤ length d → length (over d at x) ≡ length d
+pub over_length : {A : Type 0} (d : List A) (at : ℕ) (x : List A) → at + length x ≤ length d → length (over d at x) ≡ length d
 over_length d at x room = simp (length-append, length-drop, length-take-le at d (omega arith)) (omega arith)
 
 -- what stands there already changes nothing
-pub over_same : (d : List ℕ) (at n : ℕ) → at + n ≤ length d → over d at (take n (drop at d)) ≡ d
+pub over_same : {A : Type 0} (d : List A) (at n : ℕ) → at + n ≤ length d → over d at (take n (drop at d)) ≡ d
 over_same d at n room =
     let l : length (take n (drop at d)) ≡ n = length-take-le n (drop at d) (simp length-drop (omega arith)) in
     rw (l, ← take-add) (take-append-drop (at + n) d)
 
 -- nothing written changes nothing
-pub over_none : (d : List ℕ) (at : ℕ) → d ≡ over d at []
+pub over_none : {A : Type 0} (d : List A) (at : ℕ) → d ≡ over d at []
 over_none d at = paste-zero d at []
 
 -- two stores are two bytes written

@@ -1,21 +1,19 @@
 -- Document 01, "Decision record" and "Numbers given back": what is done to lent bytes. A part is written over, later bytes stay; and the
 -- first place at which two lists differ.
-use Rattle.std.specs.Prelude.{ℕ, suc, ◌+◌, ◌≡◌, List, [], ◌∷◌, ◌++◌, cond, length, take, drop, get_or, eqb}
-use Rattle.lent.specs.declared.Agreement.{Agreement}
-use Rattle.lent.specs.declared.Agreement.TheVariants.{Same, Differ}
+use Rattle.std.specs.Prelude.{ℕ, suc, ◌+◌, ◌≡◌, List, [], ◌∷◌, ◌++◌, cond, length, take, drop, get_or, eqb, Option, Some, None}
 
 -- d with s written over it from `at` on: "written at the front of the lent buffer; later bytes stay".
-abbrev pub over : List ℕ → ℕ → List ℕ → List ℕ
+abbrev pub over : {A : Type 0} → List A → ℕ → List A → List A
 over d at s = take at d ++ s ++ drop (at + length s) d
 
 -- The first place at which two lists differ, counted from k.
-unfoldable pub differ_from : ℕ → List ℕ → List ℕ → Agreement
-differ_from k [] ys = Same
-differ_from k (x ∷ xs) [] = Same
-differ_from k (x ∷ xs) (y ∷ ys) = cond (eqb x y) (differ_from (suc k) xs ys) (Differ k)
+unfoldable pub differ_from : ℕ → List ℕ → List ℕ → Option ℕ
+differ_from k [] ys = None
+differ_from k (x ∷ xs) [] = None
+differ_from k (x ∷ xs) (y ∷ ys) = cond (eqb x y) (differ_from (suc k) xs ys) (Some k)
 
 -- Refusal 8: the first differing offset of two records of one length.
-unfoldable pub first_difference : List ℕ → List ℕ → Agreement
+unfoldable pub first_difference : List ℕ → List ℕ → Option ℕ
 first_difference xs ys = differ_from 0 xs ys
 
 -- What that means: the lists agree before k, and not there.

@@ -1,39 +1,22 @@
-// Work on lent bytes: the two loops that every write and every comparison goes through.
+// Work on lent bytes: what every write and every comparison goes through.
 #![tactic(auto)]
 
-ghost use Rattle.std.specs.Prelude.{◌≡◌, ◌+◌, ◌≤◌, length};
+ghost use Rattle.std.specs.Prelude.{◌≡◌, ◌+◌, ◌<◌, ◌≤◌, length, IfSome};
 ghost use Rattle.lent.specs.Lent.{over, first_difference};
 
-// What a comparison finds: no difference, or the first place of one.
-#[derive(Clone, Copy)]
-pub enum Agreement {
-    Same,
-    Differ(usize),
-}
-
 // Writes src over dst, from `at` on; what stands before and after stays.
-pub fn put(dst: &mut [u8], at: usize, src: &[u8])
+pub fn put<T: Copy>(dst: &mut [T], at: usize, src: &[T])
     requires { at + length src.now ≤ length dst.old }
     ensures { dst.new ≡ over dst.old at src.now }
 {
-    let mut j = 0;
-    while j < src.len() {
-        dst[at + j] = src[j];
-        j += 1;
-    }
+    dst[at..at + src.len()].copy_from_slice(src);
 }
 
 // The first place at which two slices of one length differ.
-pub fn first_difference(a: &[u8], b: &[u8]) -> Agreement
+pub fn first_difference(a: &[u8], b: &[u8]) -> Option<usize>
     requires { length a.now ≡ length b.now }
-    ensures { result ≡ first_difference a.now b.now }
+    ensures first { result ≡ first_difference a.now b.now }
+    ensures inside { IfSome result (λ k. k < length a.now) }
 {
-    let mut i = 0;
-    while i < a.len() {
-        if a[i] != b[i] {
-            return Agreement::Differ(i);
-        }
-        i += 1;
-    }
-    Agreement::Same
+    a.iter().zip(b).position(|(x, y)| x != y)
 }
