@@ -1,80 +1,65 @@
--- Writing a line, on plain lists. After i words, of which `next` were marks: the buffer is the lent one with the text so far written over
--- its front; that text and what is printed of the rest make up the whole; and there is room for the rest.
-use Prim.Native.Nat.{ℕ, suc, ◌+◌, ◌*◌, ◌<◌, ◌≤◌}
+-- Writing a line, on plain lists: with the words from i on and the numbers `left` still to come, what is printed of them right behind what is
+-- written leaves the whole line, and there is room for it.
+use Prim.Native.Nat.{ℕ, ◌+◌, ◌*◌, ◌<◌, ◌≤◌}
 use mathlib.Core.Path.{◌≡◌, refl, ◌∙◌, ap}
 use mathlib.Core.Logic.{◌⊎◌, ⊎_elim}
-use mathlib.Core.Bool.{true, false}
-use mathlib.Core.List.{List, [], ◌∷◌, ◌++◌, append_assoc, append-nil}
+use mathlib.Core.List.{List, [], ◌∷◌, ◌++◌}
 use native.Mathlib.Numerals.{add-one}
 use native.Mathlib.Omega.{arith}
-use lib.Dec.{eqb}
-use lib.ListN.{length, get_or, set, drop, length-set, drop_of_length-le}
-use lib.Seq.{drop-cons, set_split}
+use lib.ListN.{length, get_or, set, drop, length-set, length-append, drop_of_length-le}
+use lib.Seq.{drop-cons, sets-eq}
+use Rattle.std.proofs.Common.{eq-eqb, ne_eqb}
+use Rattle.lent.specs.Lent.{over}
+use Rattle.lent.proofs.Over.{over_over, over_none}
 use Rattle.report.specs.Printed.{decimal, mark, printed}
 use Rattle.report.specs.Sizes.{most_digits}
 use Rattle.report.specs.Written.{Written}
-use Rattle.report.proofs.Written.{written, behind}
 
-pub record SoFar (words numbers lent out : List ℕ) (at next i : ℕ) : Type 0 where
-  pub text : List ℕ
-  pub front : Written lent 0 text at out
-  pub all : text ++ printed (drop i words) (drop next numbers) ≡ printed words numbers
-  pub number : next ≤ length numbers
-  pub same : length out ≡ length lent
-  pub room : at + length words + 19 * length numbers ≤ length out + i + 19 * next
+pub record SoFar (lent line out words left : List ℕ) (at i : ℕ) : Type 0 where
+  pub text : over out at (printed (drop i words) left) ≡ over lent 0 line
+  pub ends : at + length (printed (drop i words) left) ≡ length line
+  pub room : at + length (drop i words) + 19 * length left ≤ length out
 
-pub none_yet : {words numbers lent : List ℕ} → length words + 19 * length numbers ≤ length lent → SoFar words numbers lent lent 0 0 0
-none_yet room =
-    record { text = []; front = written (omega arith) refl refl; all = refl; number = omega arith; same = refl; room = omega arith }
+-- what is printed of a mark with a number, and of any other byte
+of_mark : (w n : ℕ) (rest left : List ℕ) → w ≡ mark → printed (w ∷ rest) (n ∷ left) ≡ decimal n ++ printed rest left
+unfolding printed
+of_mark w n rest left e = rw (eq-eqb w mark e)
 
-module _ (words numbers : List ℕ) (i next : ℕ) (w : i < length words) where
-  -- a mark stands for the next number
-  printed_number : next < length numbers → eqb (get_or words i 0) mark ≡ true → printed (drop i words) (drop next numbers) ≡ decimal (get_or numbers next 0) ++ printed (drop (i + 1) words) (drop (next + 1) numbers)
-  unfolding printed
-  printed_number n e = rw (drop-cons words i 0 w, drop-cons numbers next 0 n, e, add-one i, add-one next)
+of_word : (w : ℕ) (rest left : List ℕ) → (w ≡ mark → ⊥) ⊎ (length left ≡ 0) → printed (w ∷ rest) left ≡ w ∷ printed rest left
+unfolding printed
+of_word w rest [] o = refl
+of_word w rest (n ∷ left) o = ⊎_elim (λ ne. rw (ne_eqb w mark ne)) (λ e. absurd (omega arith)) o
 
-  -- any other byte stands as it is, and so does a mark with no number left
-  printed_word : (eqb (get_or words i 0) mark ≡ false) ⊎ (length numbers ≤ next) → printed (drop i words) (drop next numbers) ≡ (get_or words i 0 ∷ []) ++ printed (drop (i + 1) words) (drop next numbers)
-  unfolding printed
-  printed_word o = rw (drop-cons words i 0 w, add-one i) (⊎_elim (λ e. by_rest (drop next numbers) e) (λ n. rw (drop_of_length-le numbers n)) o)
-    where
-      by_rest : (ns : List ℕ) → eqb (get_or words i 0) mark ≡ false → printed (get_or words i 0 ∷ drop (suc i) words) ns ≡ get_or words i 0 ∷ printed (drop (suc i) words) ns
-      by_rest [] e = refl
-      by_rest (n ∷ ns) e = rw e
+-- one word, for which a number was put, or the word itself
+module _ {lent line out words left : List ℕ} {at i : ℕ} (so : SoFar lent line out words left at i) (w : i < length words) where
+  rest : drop i words ≡ get_or words i 0 ∷ drop (i + 1) words
+  rest = rw add-one (drop-cons words i 0 w)
 
--- one turn, in which a number was put, or a word
-module _ {words numbers lent out after : List ℕ} {at next i at' next' : ℕ} (so : SoFar words numbers lent out at next i) (w : i < length words) where
   pub number_turn :
-      {put : List ℕ} {r : ℕ} → next < length numbers → eqb (get_or words i 0) mark ≡ true → after ≡ put → at' ≡ r → next' ≡ next + 1 →
-      Written out at (decimal (get_or numbers next 0)) r put × (r ≤ at + most_digits) → length put ≡ length out →
-      SoFar words numbers lent after at' next' (i + 1)
-  number_turn n e p q m t l =
-      let k : length after ≡ length out = ap length p ∙ l in
+      {left' after : List ℕ} {n end : ℕ} → get_or words i 0 ≡ mark → left ≡ n ∷ left' →
+      Written out at (decimal n) end after × (end ≤ at + most_digits) → length after ≡ length out →
+      SoFar lent line after words left' end (i + 1)
+  number_turn {left'} {n = n} m e (p, most) l =
+      let is = ap (λ l. printed l left) rest ∙ ap (printed (get_or words i 0 ∷ drop (i + 1) words)) e ∙ of_mark _ n _ left' m in
       record {
-        text = so.text ++ decimal (get_or numbers next 0);
-        front = rw (p, q) (behind so.front t.0);
-        all = rw (append_assoc, m, ← printed_number words numbers i next w n e) so.all;
-        number = omega arith;
-        same = omega arith;
-        room = omega (arith, t.1);
+        text = rw (p.buffer, p.ends, over_over out at (decimal n) (omega (arith, so.room)) _) (rw is at so.text);
+        ends = omega (arith, p.ends, simp length-append at (rw is at so.ends));
+        room = omega (arith, rw (rest, e) at so.room);
       }
 
-  pub word_turn :
-      (eqb (get_or words i 0) mark ≡ false) ⊎ (length numbers ≤ next) → after ≡ set out at (get_or words i 0) → at' ≡ at + 1 → next' ≡ next →
-      SoFar words numbers lent after at' next' (i + 1)
-  word_turn o s e m =
-      let l : at < length out = omega arith in
-      let k : length after ≡ length out = ap length s ∙ simp length-set in
+  pub word_turn : (get_or words i 0 ≡ mark → ⊥) ⊎ (length left ≡ 0) → SoFar lent line (set out at (get_or words i 0)) words left (at + 1) (i + 1)
+  word_turn o =
+      let room = rw rest at so.room in
+      let is = ap (λ l. printed l left) rest ∙ of_word _ _ left o in
       record {
-        text = so.text ++ (get_or words i 0 ∷ []);
-        front = behind so.front (written (omega arith) e (rw (s, add-one at, append_assoc) (set_split out at (get_or words i 0) l)));
-        all = rw (append_assoc, m, ← printed_word words numbers i next w o) so.all;
-        number = omega arith;
-        same = omega arith;
-        room = omega arith;
+        text = rw (sets-eq (get_or words i 0 ∷ []) out at (omega arith), over_over out at (get_or words i 0 ∷ []) (omega arith) _) (rw is at so.text);
+        ends = omega (arith, rw is at so.ends);
+        room = omega (arith, length-set out at (get_or words i 0));
       }
 
 -- behind the last word the line is written
-pub all_written : {words numbers lent out : List ℕ} {at next i : ℕ} → SoFar words numbers lent out at next i → length words ≤ i → Written lent 0 (printed words numbers) at out
+pub all_written : {lent line out words left : List ℕ} {at i : ℕ} → SoFar lent line out words left at i → length words ≤ i → Written lent 0 line at out
 unfolding printed
-all_written {words} so e = rw (← rw (drop_of_length-le words e, append-nil) at so.all) so.front
+all_written {out = out} {words} {at = at} so e =
+    let last = drop_of_length-le words e in
+    record { ends = omega (arith, rw last at so.ends); buffer = over_none out at ∙ rw last at so.text; inside = omega (arith, so.room) }

@@ -19,26 +19,28 @@ fn put_number(out: &mut [u8], at: usize, n: u64) -> usize
     requires { at + most_digits ≤ length out.old }
     ensures { Written out.old at (decimal n) result out.new × (result ≤ at + most_digits) }
 {
-    let mut digits = [0u8; MOST_DIGITS];
-    let k = io::decimal(n, &mut digits);
-    lent::put(out, at, &digits[..k]);
-    at + k
+    let mut buffer = itoa::Buffer::new();
+    let digits = buffer.format(n);
+    lent::put(out, at, digits.as_bytes());
+    at + digits.len()
 }
 
 // Writes a line, the words as they stand and the next number for each #, and answers its length. A # is one byte of the words, so a
-// number needs room for 19 more.
+// number needs room for 19 more. It is no `impl Display`, whose `fmt` may fail: `settings_refused_contract` and `window_line_contract`
+// promise the line, at the front of a lent buffer, on each call.
 fn put_line(out: &mut [u8], words: &[u8], numbers: &[u64]) -> usize
     requires { length words.now + 19 * length numbers.now ≤ length out.old }
     ensures { Written out.old 0 (printed words.now numbers.now) result out.new }
 {
     let mut at = 0;
-    let mut next = 0;
-    for i in 0..words.len() {
-        if next < numbers.len() && words[i] == b'#' {
-            at = put_number(out, at, numbers[next]);
-            next += 1;
+    let mut left = numbers.iter();
+    for &byte in words {
+        if byte == b'#'
+            && let Some(&number) = left.next()
+        {
+            at = put_number(out, at, number);
         } else {
-            out[at] = words[i];
+            out[at] = byte;
             at += 1;
         }
     }
@@ -68,7 +70,7 @@ fn window_decided(out: &mut [u8], number: u64, trip: u8, diff: u8, mho: u8, dir:
     requires { line_length ≤ length out.old }
     ensures { Written out.old 0 (window_decided number trip diff mho dir) result out.new }
 {
-    let numbers = [number, trip as u64, diff as u64, mho as u64, dir as u64];
+    let numbers = [number, trip.into(), diff.into(), mho.into(), dir.into()];
     put_line(out, b"window # trip # diff # mho # dir #\n", &numbers)
 }
 
@@ -85,12 +87,6 @@ pub fn window_line(
     if r != answers::DONE {
         return window_refused(out, number, r);
     }
-    window_decided(
-        out,
-        number,
-        decision[0],
-        decision[1],
-        decision[2],
-        decision[3],
-    )
+    let [trip, diff, mho, dir, ..] = *decision;
+    window_decided(out, number, trip, diff, mho, dir)
 }

@@ -1,10 +1,15 @@
--- `report::put_number` meets its contract: the digits that `io::decimal` makes are the number's decimal text.
-use Rattle.std.proofs.Common.{arith}
-use Rattle.report.proofs.Decimal.{few_digits, number_written}
+-- `report::put_number` meets its contract: the digits that `itoa` makes are the number's decimal text.
+use Rattle.std.proofs.Common.{◌+◌, ◌≤◌, length, arith, ap, ◌∙◌, sym}
+use Rattle.lent.specs.Lent.{over}
+use Rattle.report.specs.Printed.{decimal}
+use Rattle.report.specs.Sizes.{most_digits}
+use Rattle.report.proofs.Decimal.{decimal_text}
+use Rattle.report.proofs.Written.{written}
 use Rattle.report.proofs.put_number.Goals as goal
 
 pub returns : goal.returns
 returns c =
-    let d = c.decimal-k.ensures in
-    let few = few_digits d.len c.ranges.n.fits in
-    (number_written (omega arith) d.in_bounds.1 d.digits d.len c.put.ensures, omega arith)
+    let digits = c.format-digits.ensures.text ∙ sym (decimal_text c.args.n c.ranges.n.fits) in
+    let room = c.requires in
+    let fits : length (decimal c.args.n) ≤ most_digits = rw digits at c.format-digits.ensures.fits in
+    (written (omega arith) (ap (λ d. c.args.at + length d) digits) (c.put.ensures ∙ ap (over c.args.out.now c.args.at) (c.as_bytes.ensures.value ∙ digits)), omega (arith, c.format-digits.ensures.fits))
