@@ -1,6 +1,6 @@
 -- What belongs to no one function.
 pub mod Standing
-pub mod OpenEnd
 pub mod TakeIn
-pub mod Reading
+pub mod Finishing
+pub mod Calls
 pub mod Next

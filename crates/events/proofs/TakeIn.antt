@@ -1,70 +1,24 @@
 -- Each way out of taking in a piece: it stands behind the bytes in hand, and all that the outcome asks of them is read where they lie.
-use Prim.Native.Nat.{ℕ, ◌+◌, ◌*◌, ◌-◌, ◌<◌, ◌≤◌}
-use mathlib.Core.Path.{◌≡◌, refl, sym, ap, ap₂, ◌∙◌}
-use mathlib.Core.List.{List, [], ◌∷◌, ◌++◌}
-use mathlib.Core.Bool.{Bool, true, false, not}
+use Prim.Native.Nat.{ℕ, ◌+◌, ◌*◌, ◌<◌, ◌≤◌}
+use mathlib.Core.Path.{◌≡◌, refl, sym, ap, ◌∙◌}
+use mathlib.Core.List.{List, ◌++◌}
+use mathlib.Core.Bool.{Bool, true, false}
 use native.Mathlib.Omega.{arith}
 use native.Mathlib.Numerals.{add-one}
-use borrow.Author.Tests.{le-leb, lt-leb, lt-ltb, le-ltb, leb-true, leb-false}
-use lib.Dec.{eqb, leb}
-use lib.ListN.{length, take, drop, set, get_or, replicate, length-append, length-drop}
-use lib.Seq.{drop-append-le, length-take-le, take_at, get_or-take, get_or-drop, drop-drop}
-use Rattle.answers.specs.declared.Answer.TheVariants as answer
+use borrow.Author.Tests.{lt-ltb, le-ltb, leb-true, leb-false}
+use lib.Dec.{leb}
+use lib.ListN.{length, take, drop, get_or, length-append, length-drop}
+use lib.Seq.{drop-append-le, length-take-le, take_at, get_or-take, get_or-drop}
 use Rattle.lent.specs.Lent.{over}
-use Rattle.lent.proofs.Over.{over_length, over_read, part_front, take_drop}
+use Rattle.lent.proofs.Over.{over_length, part_front, take_drop}
 use Rattle.samples.specs.Window.{channels}
-use Rattle.records.specs.Record.{word_at, swapped, narrow, record_length, number_in, frame_in}
-use Rattle.records.proofs.Swapped.{swapped_length}
+use Rattle.records.specs.Record.{word_at, swapped, record_length, number_in, frame_in}
 use Rattle.files.specs.Reader.{wrong_number}
-use Rattle.events.specs.Slice.{reader_length, ends_in, status_in, held_in, index_in, shape_in, hand_in, is_reading, wrong_in, front_of, finished, Settled, TookIn}
+use Rattle.std.specs.Prelude.{Result}
+use Rattle.answers.specs.declared.Refusal.{Refusal}
 use Rattle.events.specs.declared.Step.{Step}
-use Rattle.events.specs.declared.Step.TheVariants as step
+use Rattle.events.specs.Slice.{HoldsReading, reader_length, ends_in, status_in, held_in, index_in, shape_in, hand_in, is_reading, wrong_in, front_of, Settled, TookIn}
 use Rattle.events.proofs.Standing.{holds, hand_length}
-
--- ---- the test of the number
-
-pub wrong_few : (s : List ℕ) (index : ℕ) {have : ℕ} → have < 4 → false ≡ wrong_in s have index
-wrong_few s index {have} l = rw (lt-leb 4 have l)
-
-pub wrong_other : (s : List ℕ) (index : ℕ) {have w : ℕ} → 4 ≤ have → w ≡ word_at s 56 → not (eqb w (index + 1)) ≡ wrong_in s have index
-wrong_other s index {have} l e = rw (le-leb 4 have l, e)
-
--- ---- what the record comes to
-
-module _ {ends long index have : ℕ} {s left : List ℕ} {b : Bool} (w : b ≡ wrong_in s have index) where
-  pub settle_12 : b ≡ true → left ≡ set s 2 12 → Settled ends long index have s (step.Ended (answer.OtherNumber index)) left
-  settle_12 t k = let e = sym w ∙ t in record { step = rw e; reader = rw e k }
-
-  module _ (t : b ≡ false) where
-    pub settle_more : have < long → left ≡ set s 3 have → Settled ends long index have s step.Taken left
-    settle_more l k = let e = sym w ∙ t in let f = lt-ltb have long l in record { step = rw (e, f); reader = rw (e, f) k }
-
-    pub settle_whole : long ≤ have → left ≡ finished ends (drop 56 s) s → Settled ends long index have s step.Whole left
-    settle_whole l k = let e = sym w ∙ t in let f = le-ltb have long l in record { step = rw (e, f); reader = rw (e, f) k }
-
--- ---- a record finished
-
--- what is written over the front of a list can be taken from there
-pub front_over : (d x : List ℕ) → take (length x) (over d 0 x) ≡ x
-front_over d x = over_read d 0 x (omega arith)
-
--- the frame's bytes exchanged in room for the longest, and then written
-pub finish_is :
-    (s : List ℕ) (ends : ℕ) {n : ℕ} {frame one left : List ℕ} → length s ≡ reader_length → ends ≤ 6 → n ≡ channels ends →
-    frame ≡ over (replicate 42 0) 0 (swapped (take (56 + 8 + 2 * n - 64) (drop 64 s))) →
-    one ≡ over s 3 (0 ∷ get_or s 56 0 ∷ get_or s 57 0 ∷ get_or s 58 0 ∷ get_or s 59 0 ∷ get_or s 63 0 ∷ get_or s 62 0 ∷ get_or s 61 0 ∷ get_or s 60 0 ∷ []) →
-    left ≡ over one 12 (take (2 * n - 0) frame) → left ≡ finished ends (drop 56 s) s
-finish_is s ends {n} {frame} l most e f o k =
-    let m : ℕ = 2 * channels ends in
-    let x : List ℕ = take m (drop 64 s) in
-    let long : length x ≡ m = length-take-le m (drop 64 s) (simp length-drop (omega arith)) in
-    let turned : length (swapped x) ≡ m = swapped_length (channels ends) x long in
-    let same : 56 + 8 + 2 * n - 64 ≡ m = omega arith in
-    let none : 2 * n - 0 ≡ length (swapped x) = omega arith in
-    let read : take (2 * n - 0) frame ≡ swapped x = rw (f, same, none) (front_over (replicate 42 0) (swapped x)) in
-    let hand : take m (drop 8 (drop 56 s)) ≡ x = ap (take m) (drop-drop 8 56 s) in
-    let byte : (j : ℕ) → get_or (drop 56 s) j 0 ≡ get_or s (56 + j) 0 = λ j. get_or-drop 56 s j 0 in
-    k ∙ ap₂ (λ (a b : List ℕ). over a 12 b) o read ∙ rw (hand, byte 0, byte 1, byte 2, byte 3, byte 4, byte 5, byte 6, byte 7)
 
 -- bytes where they lie
 hand_byte : (s : List ℕ) (k : ℕ) → get_or s (56 + k) 0 ≡ get_or (drop 56 s) k 0
@@ -139,15 +93,11 @@ module _ (s piece : List ℕ) (l : length s ≡ reader_length) (y : is_reading s
       ap swapped (sym front ∙ ap (λ (q : List ℕ). take (2 * channels (ends_in s)) (drop 8 q)) in_hand_lem)
 
   -- what is settled of the slice is the outcome
-  pub took :
-      {ends status held index long : ℕ} {mid left : List ℕ} {r : Step} → ends ≡ ends_in s → held ≡ held_in s → status ≡ status_in s → long ≡ record_length (narrow ends status) →
-      index ≡ index_in s → mid ≡ over s (56 + held) piece → Settled ends long index (held + length piece) mid r left → TookIn s piece r left
-  took {ends} {status} {held} {index} {long} {mid} {left} {r} d h u m i k c =
-      by_tests (wrong_number (index_in s) g) (leb (record_length (shape_in s)) (length g)) refl refl
+  settled_outcome :
+      {left : List ℕ} {r : Result Step Refusal} →
+      Settled (ends_in s) (record_length (shape_in s)) (index_in s) (held_in s + length piece) t r left → TookIn s piece r left
+  settled_outcome {left} {r} settled = by_tests (wrong_number (index_in s) g) (leb (record_length (shape_in s)) (length g)) refl refl
     where
-      settled : Settled (ends_in s) (record_length (shape_in s)) (index_in s) (held_in s + length piece) t r left
-      settled = rw (← d, ← u, ← m, ← i, ← h, ← k) c
-
       by_tests : (a b : Bool) → wrong_number (index_in s) g ≡ a → leb (record_length (shape_in s)) (length g) ≡ b → TookIn s piece r left
       by_tests true b v w = let e = wrong_is ∙ v in record { step = rw v (settled.step ∙ rw e); reader = rw v (settled.reader ∙ rw e) }
       by_tests false true v w =
@@ -162,3 +112,10 @@ module _ (s piece : List ℕ) (l : length s ≡ reader_length) (y : is_reading s
           let few = leb-false (record_length (shape_in s)) (length g) w in
           let f = lt-ltb (held_in s + length piece) (record_length (shape_in s)) (omega (arith, g_length, few)) in
           record { step = rw (v, w) (settled.step ∙ rw (e, f)); reader = rw (v, w) (settled.reader ∙ rw (e, f)) }
+
+pub took :
+    (s piece : List ℕ) {ends long index held : ℕ} {mid left : List ℕ} {r : Result Step Refusal} → length s ≡ reader_length →
+    HoldsReading s ends long index held → held + length piece ≤ long → mid ≡ over s (56 + held) piece →
+    Settled ends long index (held + length piece) mid r left → TookIn s piece r left
+took s piece l h room k c =
+    settled_outcome s piece l h.reading (omega arith) (rw (← h.its_length, ← h.its_ends, ← h.its_index, ← h.its_held, ← k) c)

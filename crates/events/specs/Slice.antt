@@ -1,11 +1,12 @@
 -- Document 02, CR 5: how a reader lies in a lent slice of one fixed length, and what each call leaves there. Any bytes are a defined reader.
-use Rattle.std.specs.Prelude.{ℕ, ◌+◌, ◌*◌, ◌≡◌, List, [], ◌∷◌, ◌++◌, Bool, cond, not, ◌&&◌, eqb, leb, ltb, length, take, drop, set, get_or, replicate}
-use Rattle.answers.specs.declared.Answer.{Answer}
-use Rattle.answers.specs.declared.Answer.TheVariants as answer
+use Rattle.std.specs.Prelude.{ℕ, ◌+◌, ◌*◌, ◌≡◌, List, [], ◌∷◌, ◌++◌, Bool, cond, not, ◌&&◌, eqb, leb, ltb, length, take, drop, set, get_or, replicate, Result, Ok, Err, true, false}
+use Rattle.answers.specs.declared.Refusal.{Refusal}
+use Rattle.answers.specs.declared.Refusal.TheVariants as refused
+use Rattle.answers.specs.Answers.{Answer}
 use Rattle.lent.specs.Lent.{over}
 use Rattle.samples.specs.Window.{channels}
 use Rattle.records.specs.Record.{Shape, word_at, good_file, narrow, record_length, frame_in}
-use Rattle.files.specs.Reader.{Ending, BadFile, OtherNumber, InsideRecord, answer_of, Reader, Ended, Reading, opened, wanted, Outcome, Stopped, More, Whole, outcome, read_outcome, refusal, end_answer}
+use Rattle.files.specs.Reader.{Ending, BadFile, OtherNumber, InsideRecord, refusal_of, Reader, Ended, Reading, opened, wanted, Outcome, Stopped, More, Whole, outcome, read_outcome, refusal, end_answer}
 use Rattle.events.specs.declared.Step.{Step}
 use Rattle.events.specs.declared.Step.TheVariants as step
 
@@ -71,6 +72,19 @@ ended_by ended index = cond (eqb ended 12) (OtherNumber index) (cond (eqb ended 
 unfoldable pub reader_of : List ℕ → Reader
 reader_of s = cond (is_reading s) (Reading (shape_in s) (index_in s) (hand_in s)) (Ended (ended_by (ended_in s) (index_in s)))
 
+-- What the code takes from the slice of a reading that has not ended: the ends, and of the record being read its length, its index, and how
+-- many of its bytes are in hand; and of one that has ended the refusal.
+pub record HoldsReading (s : List ℕ) (ends long index held : ℕ) : Type 0 where
+  pub reading : is_reading s ≡ true
+  pub its_ends : ends ≡ ends_in s
+  pub its_length : long ≡ record_length (shape_in s)
+  pub its_index : index ≡ index_in s
+  pub its_held : held ≡ held_in s
+
+pub record HasEnded (s : List ℕ) (e : Refusal) : Type 0 where
+  pub reading : is_reading s ≡ false
+  pub refusal : Err e ≡ refusal (reader_of s)
+
 -- Refusal 17: a reader slice of another length, before all others. Nothing changes then.
 abbrev pub is_reader : List ℕ → Bool
 is_reader s = eqb (length s) reader_length
@@ -80,7 +94,7 @@ abbrev pub opened_bytes : (ends status : ℕ) → List ℕ
 opened_bytes ends status = cond (good_file ends status) (ends ∷ status ∷ replicate 158 0) (replicate reader_length 0)
 
 pub record Opened (ends status : ℕ) (s : List ℕ) (a : Answer) (left : List ℕ) : Type 0 where
-  pub answer : a ≡ cond (is_reader s) (refusal (opened (narrow ends status))) answer.NoRelay
+  pub answer : a ≡ cond (is_reader s) (refusal (opened (narrow ends status))) (Err refused.NoRelay)
   pub reader : left ≡ cond (is_reader s) (opened_bytes ends status) s
 
 -- How many bytes are wanted: a count, and no answer.
@@ -92,7 +106,7 @@ abbrev pub end_left : List ℕ → List ℕ
 end_left s = cond (is_reading s && not (eqb (held_in s) 0)) (set s ended_at 11) s
 
 pub record AtEnd (s : List ℕ) (a : Answer) (left : List ℕ) : Type 0 where
-  pub answer : a ≡ cond (is_reader s) (end_answer (reader_of s)) answer.NoRelay
+  pub answer : a ≡ cond (is_reader s) (end_answer (reader_of s)) (Err refused.NoRelay)
   pub reader : left ≡ cond (is_reader s) (end_left s) s
 
 -- Read. After a whole record g: none of the next one in hand, whose index is this one's number; its time with the high byte first; and its frame.
@@ -121,17 +135,17 @@ abbrev pub read_left : (s piece : List ℕ) → List ℕ
 read_left s piece = cond (is_reading s) (taken_left s (take (wanted (reader_of s)) piece)) s
 
 -- What `read` tells before a whole record's frame is fed.
-abbrev pub told : Outcome → Step
-told (Stopped e) = step.Ended (answer_of e)
-told More = step.Taken
-told (Whole sh g) = step.Whole
+abbrev pub told : Outcome → Result Step Refusal
+told (Stopped e) = Err (refusal_of e)
+told More = Ok step.Taken
+told (Whole sh g) = Ok step.Whole
 
-pub record Read (s piece : List ℕ) (r : Step) (left : List ℕ) : Type 0 where
+pub record Read (s piece : List ℕ) (r : Result Step Refusal) (left : List ℕ) : Type 0 where
   pub step : r ≡ told (read_outcome (reader_of s) piece)
   pub reader : left ≡ read_left s piece
 
 -- A piece that is wanted to its end, taken by a reading that has not ended.
-pub record TookIn (s piece : List ℕ) (r : Step) (left : List ℕ) : Type 0 where
+pub record TookIn (s piece : List ℕ) (r : Result Step Refusal) (left : List ℕ) : Type 0 where
   pub step : r ≡ told (taken_outcome s piece)
   pub reader : left ≡ taken_left s piece
 
@@ -140,8 +154,8 @@ abbrev pub wrong_in : List ℕ → ℕ → ℕ → Bool
 wrong_in s have index = leb 4 have && not (eqb (word_at s hand_at) (index + 1))
 
 -- What the record being read comes to, asked of the slice alone: its length, its index and how many of its bytes are in hand.
-pub record Settled (ends long index have : ℕ) (s : List ℕ) (r : Step) (left : List ℕ) : Type 0 where
-  pub step : r ≡ cond (wrong_in s have index) (step.Ended (answer.OtherNumber index)) (cond (ltb have long) step.Taken step.Whole)
+pub record Settled (ends long index have : ℕ) (s : List ℕ) (r : Result Step Refusal) (left : List ℕ) : Type 0 where
+  pub step : r ≡ cond (wrong_in s have index) (Err (refused.OtherNumber index)) (cond (ltb have long) (Ok step.Taken) (Ok step.Whole))
   pub reader : left ≡ cond (wrong_in s have index) (set s ended_at 12) (cond (ltb have long) (set s held_at have) (finished ends (drop hand_at s) s))
 
 -- What the slice shows of the last whole record: its time, 32 bits with the high byte first, and its frame as feed takes it.

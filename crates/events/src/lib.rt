@@ -1,12 +1,10 @@
 // The reader of event files (document 02, CR 5), in a lent slice: open, wanted, read up to where a frame is fed, and end.
 #![tactic(auto)]
 
-ghost use Rattle.std.specs.Prelude.{◌≡◌, true, ◌+◌, ◌*◌, ◌<◌, ◌≤◌, length, drop};
-ghost use Rattle.records.specs.Record.{record_length};
-ghost use Rattle.files.specs.Reader.{refusal};
-ghost use Rattle.events.specs.Slice.{reader_length, hand_at, shape_in, held_in, index_in, is_reading, reader_of, Opened, wanted_in, AtEnd, wrong_in, finished, Settled, TookIn, Read, frame_end};
+ghost use Rattle.std.specs.Prelude.{◌≡◌, ◌+◌, ◌-◌, ◌≤◌, length, drop, MatchResult};
+ghost use Rattle.events.specs.Slice.{reader_length, hand_at, HoldsReading, HasEnded, Opened, wanted_in, AtEnd, wrong_in, finished, Settled, TookIn, Read, frame_end};
 
-use answers::Answer;
+use answers::{Answer, Refusal};
 
 // How many bytes a reader has; and where it holds the time and the frame of the last whole record.
 pub const LENGTH: usize = 160;
@@ -34,209 +32,173 @@ const INSIDE: u8 = 11;
 
 const OTHER: u8 = 12;
 
-// How many bytes the longest frame has.
-const LONGEST_FRAME: usize = 42;
-
-// What a call of read comes to: the reading has ended; the bytes are taken; a record is whole, and its frame is to be fed.
+// What a call of read comes to: the bytes are taken; or a record is whole, and its frame is to be fed.
 #[derive(Clone, Copy)]
 pub enum Step {
-    Ended(Answer),
     Taken,
     Whole,
 }
 
-// A byte as a length.
-fn size(b: u8) -> usize
-    ensures { (result ≡ b) × (result < 256) }
-{
-    b as usize
+// A reading that has not ended: how many ends the file has; and of the record being read its length, its index, and how many of its bytes
+// are in hand.
+#[derive(Clone, Copy)]
+struct Reading {
+    ends: usize,
+    long: usize,
+    index: u32,
+    held: usize,
+    ghost few_ends: { ends ≤ 6 },
+    ghost short: { long ≤ 62 },
+    ghost in_hand: { held ≤ long },
 }
 
-// Whether the bytes are a reading that has not ended.
-fn is_reading(reader: &[u8]) -> bool
-    requires { length reader.now ≡ reader_length }
-    ensures { result ≡ is_reading reader.now }
-{
-    if size(reader[ENDED]) != 0 {
-        return false;
+impl Reading {
+    // How many bytes are missing to the end of the record.
+    fn missing(self) -> usize
+        ensures { result ≡ self.long - self.held }
+    {
+        self.long - self.held
     }
-    let ends = size(reader[ENDS]);
-    let status = size(reader[STATUS]);
-    if !records::good_file(ends as u64, status as u64) {
-        return false;
-    }
-    size(reader[HELD]) < records::record_length(ends, status)
 }
 
-// The index of the record being read.
-fn index(reader: &[u8]) -> u32
-    requires { length reader.now ≡ reader_length }
-    ensures { result ≡ index_in reader.now }
+// The reading, or the refusal that ended it.
+#[tactic(auto, unfolding(crate::specs::Slice::is_reading, crate::specs::Slice::reader_of))]
+fn reading_in(reader: &[u8; LENGTH]) -> Result<Reading, Refusal>
+    ensures { MatchResult result (λ r. HoldsReading reader.now r.ends r.long r.index r.held) (λ e. HasEnded reader.now e) }
 {
-    records::word(reader, INDEX) as u32
-}
-
-// The refusal that ended the reading; done where it goes on.
-fn refusal(reader: &[u8]) -> Answer
-    requires { length reader.now ≡ reader_length }
-    ensures { result ≡ refusal (reader_of reader.now) }
-{
-    if is_reading(reader) {
-        return Answer::Done;
+    let index = records::word(reader, INDEX);
+    match reader[ENDED] {
+        0 => {}
+        INSIDE => return Err(Refusal::InsideRecord(index)),
+        OTHER => return Err(Refusal::OtherNumber(index)),
+        _ => return Err(Refusal::BadFile),
     }
-    let ended = reader[ENDED];
-    if ended == OTHER {
-        return Answer::OtherNumber(index(reader));
+    if !records::good_file(u64::from(reader[ENDS]), u64::from(reader[STATUS])) {
+        return Err(Refusal::BadFile);
     }
-    if ended == INSIDE {
-        return Answer::InsideRecord(index(reader));
+    let ends = usize::from(reader[ENDS]);
+    let long = records::record_length(ends, usize::from(reader[STATUS]));
+    let held = usize::from(reader[HELD]);
+    if long <= held {
+        return Err(Refusal::BadFile);
     }
-    Answer::BadFile
+    Ok(Reading {
+        ends,
+        long,
+        index,
+        held,
+    })
 }
 
 // How many bytes are missing to the end of the record being read; 0 where the reading has ended.
+#[tactic(auto, using(crate::proofs::Standing::wanted_is, crate::proofs::Standing::none_wanted))]
 pub fn wanted(reader: &[u8]) -> usize
     ensures { result ≡ wanted_in reader.now }
 {
-    if reader.len() != LENGTH {
+    let Some(reader) = reader.as_array::<LENGTH>() else {
         return 0;
+    };
+    match reading_in(reader) {
+        Ok(reading) => reading.missing(),
+        Err(_) => 0,
     }
-    if !is_reading(reader) {
-        return 0;
-    }
-    records::record_length(size(reader[ENDS]), size(reader[STATUS])) - size(reader[HELD])
 }
 
 // Puts a reader at the start of a file. What the caller says of a file that cannot be is remembered: all zero bytes.
 pub fn open(reader: &mut [u8], ends: u64, status: u64) -> Answer
     ensures { Opened ends status reader.old result reader.new }
 {
-    if reader.len() != LENGTH {
-        return Answer::NoRelay;
-    }
-    let zeros = [0u8; LENGTH];
-    lent::put(reader, 0, &zeros);
+    let Some(reader) = reader.as_mut_array::<LENGTH>() else {
+        return Err(Refusal::NoRelay);
+    };
+    *reader = [0; LENGTH];
     if !records::good_file(ends, status) {
-        return Answer::BadFile;
+        return Err(Refusal::BadFile);
     }
     reader[ENDS] = ends as u8;
     reader[STATUS] = status as u8;
-    Answer::Done
+    Ok(())
 }
 
 // At the end of a file: done between records; inside one a refusal, which the reader remembers.
+#[tactic(auto, using(crate::proofs::Standing::end_between, crate::proofs::Standing::end_inside))]
 pub fn end(reader: &mut [u8]) -> Answer
     ensures { AtEnd reader.old result reader.new }
 {
-    if reader.len() != LENGTH {
-        return Answer::NoRelay;
+    let Some(reader) = reader.as_mut_array::<LENGTH>() else {
+        return Err(Refusal::NoRelay);
+    };
+    let reading = reading_in(reader)?;
+    if reading.held == 0 {
+        return Ok(());
     }
-    let refused = refusal(reader);
-    if !answers::is_done(refused) {
-        return refused;
-    }
-    if size(reader[HELD]) == 0 {
-        return Answer::Done;
-    }
-    let at = index(reader);
     reader[ENDED] = INSIDE;
-    Answer::InsideRecord(at)
+    Err(Refusal::InsideRecord(reading.index))
 }
 
 // Whether the four bytes of the record's number are in hand, and it is not one above the index.
-fn wrong_number(reader: &[u8], have: usize, index: u32) -> bool
-    requires { length reader.now ≡ reader_length }
-    ensures { result ≡ wrong_in reader.now have index }
+fn wrong_number(reader: &[u8; LENGTH], reading: Reading) -> bool
+    ensures { result ≡ wrong_in reader.now reading.held reading.index }
 {
-    if have < 4 {
-        return false;
-    }
-    records::word(reader, HAND) != (index as u64) + 1
+    4 <= reading.held && u64::from(records::word(reader, HAND)) != u64::from(reading.index) + 1
 }
 
 // A whole record is in hand: the reader holds its time and its frame, and the next record is to be read, whose index is this one's number.
-fn finish(reader: &mut [u8], ends: usize)
-    requires { (length reader.old ≡ reader_length) × (ends ≤ 6) }
+fn finish(reader: &mut [u8; LENGTH], ends: usize)
+    requires { ends ≤ 6 }
     ensures { reader.new ≡ finished ends (drop hand_at reader.old) reader.old }
 {
-    let front = [
-        0u8,
-        reader[HAND],
-        reader[HAND + 1],
-        reader[HAND + 2],
-        reader[HAND + 3],
-        reader[HAND + 7],
-        reader[HAND + 6],
-        reader[HAND + 5],
-        reader[HAND + 4],
-    ];
-    let n = samples::channels(ends);
-    let long = 2 * n;
-    let to = HAND + records::BEFORE_CHANNELS + long;
-    let mut frame = [0u8; LONGEST_FRAME];
-    records::turn(
-        &mut frame,
-        0,
-        &reader[HAND + records::BEFORE_CHANNELS..to],
-        n,
-    );
-    lent::put(reader, HELD, &front);
-    lent::put(reader, FRAME, &frame[0..long]);
+    let (front, hand) = reader.split_at_mut(HAND);
+    let number = records::word(hand, 0);
+    let time = records::word(hand, records::TIME);
+    let to = records::BEFORE_CHANNELS + 2 * samples::channels(ends);
+    front[HELD] = 0;
+    lent::put(front, INDEX, &number.to_le_bytes());
+    lent::put(front, TIME, &time.to_be_bytes());
+    records::turn(front, FRAME, &hand[records::BEFORE_CHANNELS..to]);
 }
 
 // What the record being read comes to, with so many bytes of it in hand.
-fn settle(reader: &mut [u8], ends: usize, long: usize, at: u32, have: usize) -> Step
-    requires { (length reader.old ≡ reader_length) × (ends ≤ 6) × (long ≤ 62) }
-    ensures { Settled ends long at have reader.old result reader.new }
+fn settle(reader: &mut [u8; LENGTH], reading: Reading) -> Result<Step, Refusal>
+    ensures { Settled reading.ends reading.long reading.index reading.held reader.old result reader.new }
 {
-    if wrong_number(reader, have, at) {
+    if wrong_number(reader, reading) {
         reader[ENDED] = OTHER;
-        return Step::Ended(Answer::OtherNumber(at));
+        return Err(Refusal::OtherNumber(reading.index));
     }
-    if have < long {
-        reader[HELD] = have as u8;
-        return Step::Taken;
+    if reading.held < reading.long {
+        reader[HELD] = reading.held as u8;
+        return Ok(Step::Taken);
     }
-    finish(reader, ends);
-    Step::Whole
+    finish(reader, reading.ends);
+    Ok(Step::Whole)
 }
 
 // Takes in a piece that is wanted to its end.
-fn take_in(reader: &mut [u8], piece: &[u8]) -> Step
-    requires { (length reader.old ≡ reader_length) × (is_reading reader.old ≡ true) × (held_in reader.old + length piece.now ≤ record_length (shape_in reader.old)) }
+fn take_in(reader: &mut [u8; LENGTH], mut reading: Reading, piece: &[u8]) -> Result<Step, Refusal>
+    requires of_reader { HoldsReading reader.old reading.ends reading.long reading.index reading.held }
+    requires wanted { reading.held + length piece.now ≤ reading.long }
     ensures { TookIn reader.old piece.now result reader.new }
 {
-    let ends = size(reader[ENDS]);
-    let held = size(reader[HELD]);
-    let long = records::record_length(ends, size(reader[STATUS]));
-    let at = index(reader);
-    lent::put(reader, HAND + held, piece);
-    settle(reader, ends, long, at, held + piece.len())
+    lent::put(reader, HAND + reading.held, piece);
+    reading.held += piece.len();
+    settle(reader, reading)
 }
 
 // Takes as many of the bytes lent as are wanted, no more.
-pub fn read(reader: &mut [u8], bytes: &[u8]) -> Step
-    requires { length reader.old ≡ reader_length }
+pub fn read(reader: &mut [u8; LENGTH], bytes: &[u8]) -> Result<Step, Refusal>
     ensures { Read reader.old bytes.now result reader.new }
 {
-    let refused = refusal(reader);
-    if !answers::is_done(refused) {
-        return Step::Ended(refused);
-    }
-    let n = wanted(reader);
-    if bytes.len() <= n {
-        take_in(reader, bytes)
-    } else {
-        take_in(reader, &bytes[0..n])
-    }
+    let reading = reading_in(reader)?;
+    let n = reading.missing().min(bytes.len());
+    take_in(reader, reading, &bytes[..n])
 }
 
 // Where the frame ends that the reader holds.
-pub fn frame_end(reader: &[u8]) -> usize
-    requires { length reader.now ≡ reader_length }
+pub fn frame_end(reader: &[u8; LENGTH]) -> usize
     ensures { (result ≡ frame_end reader.now) × (12 ≤ result) × (result ≤ reader_length) }
 {
-    let ends = size(reader[ENDS]);
+    let ends = usize::from(reader[ENDS]);
     if 6 < ends {
         return FRAME;
     }
