@@ -22,8 +22,8 @@ pub enum Direction {
     Reverse,
 }
 
-// What the negative sequence tells of a fault. It is two values, as in the definitions `reaches_pickup` and `direction_of` and in `Findings`: an
-// Option of a Direction would have a None of its own beside `Direction::None`.
+// What the negative sequence tells of a fault. It is two values, as in the definitions `reaches_pickup` and `direction_of` and in `Findings`:
+// an Option of a Direction would have a None of its own beside `Direction::None`.
 #[derive(Clone, Copy)]
 pub struct Bearing {
     // whether 3I2 reaches its pickup

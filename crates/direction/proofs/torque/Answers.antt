@@ -8,7 +8,8 @@ use Rattle.direction.specs.Direction.{torque}
 use Rattle.direction.proofs.torque.Goals as goal
 
 pub dot-requires : goal.dot-requires
-dot-requires c = rw c.times.ensures (multiply {a = sequence_size} (search) (inside_times {b = sequence_size} c.requires.0 (search)) tt tt tt)
+dot-requires c =
+    rw c.times.ensures (multiply {a = sequence_size} (search) (inside_times {b = sequence_size} c.requires.0 (search)) tt tt tt)
 
 pub returns : goal.returns
 unfolding torque
