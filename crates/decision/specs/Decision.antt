@@ -11,7 +11,7 @@ use Rattle.distance.specs.Constants.{replica, compensation}
 use Rattle.direction.specs.Direction.{reaches_pickup, direction_of}
 use Rattle.distance.specs.declared.mho.SixLoops.{SixLoops}
 use Rattle.distance.specs.Mho.{loops_of, loop_bits}
-use Rattle.differential.specs.declared.Comparisons.{Comparisons}
+use Rattle.differential.specs.declared.Comparison.{Comparison}
 use Rattle.differential.specs.Differential.{comparisons, operating_bits, slopes_of_change}
 use Rattle.quadrilateral.specs.Quadrilateral.{quadrilaterals_of}
 use Rattle.findings.specs.declared.Findings.{Findings}
@@ -32,7 +32,7 @@ abbrev pub currents_of_end1 : List ℕ → List ℤ → Phases
 currents_of_end1 s w = local_currents (rate_of s) w (ends s)
 
 -- s and U of each phase, over all ends
-abbrev pub comparisons_of : List ℕ → List ℤ → Comparisons
+abbrev pub comparisons_of : List ℕ → List ℤ → Phases Comparison
 comparisons_of s w = comparisons (current (rate_of s) w (ends s)) (ends s)
 
 -- the six loops, from the voltages and the currents of end 1

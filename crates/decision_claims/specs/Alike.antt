@@ -1,12 +1,12 @@
 -- What a request must not move is said by way of what stays alike: two records that differ in one field, records whose field is zero, and a
 -- decision's 32 bytes with some of them as they were.
 use Rattle.std.specs.Prelude.{ℕ, ◌+◌, ◌≡◌, List, ◌∷◌, ◌++◌, get_or, Ok}
+use Rattle.plane.specs.declared.Phases.{Phases}
 use Rattle.whole.specs.Exactly.{Exactly}
 use Rattle.settings.specs.Record.{field_at}
 use Rattle.settings.specs.Table.{Rule, Byte, offset_of, second_reach_row, differential_rows, distance_rows, angle_rows, direction_rows, spare_rows}
 use Rattle.settings.specs.Check.{checked_by}
 use Rattle.direction.specs.Direction.{direction_number}
-use Rattle.differential.specs.declared.change.Changes.{Changes}
 use Rattle.differential.specs.Differential.{magnitude}
 use Rattle.findings.specs.declared.Findings.{Findings}
 use Rattle.findings.specs.DecisionRecord.{word}
@@ -31,7 +31,7 @@ pub record FromBefore (row : Rule) (since before : List Rule) : Type 0 where
 
 -- The bytes of a decision once more, with what requests have changed as it is given: byte 0 (document 02, CR 4), byte 1 (CR 7), and bytes 5 to
 -- 7 (CR 6).
-abbrev pub record_with : ℕ → ℕ → Changes → Findings → List ℕ
+abbrev pub record_with : ℕ → ℕ → Phases ℕ → Findings → List ℕ
 record_with trip phases changes f =
     trip ∷ phases ∷ f.asserting ∷ direction_number f.direction ∷ f.overreaching ∷ changes.a ∷ changes.b ∷ changes.c
     ∷ word f.comparisons.a.restraint ++ word f.comparisons.b.restraint ++ word f.comparisons.c.restraint

@@ -1,10 +1,10 @@
 -- Document 02, CR 6: the slope at which it changes, and what the request does not move. s is the settings record in force, w the window's
 -- numbers, d what the buffer holds after the call, and phases a, b, c are 0, 1, 2.
 use Rattle.std.specs.Prelude.{ℕ, ◌+◌, ◌/◌, ◌≤◌, ◌<◌, ◌≡◌, ◌⊎◌, List, [], ◌∷◌, true, ℤ}
+use Rattle.plane.specs.declared.Phases.{Phases}
 use Rattle.whole.specs.Exactly.{Exactly}
 use Rattle.settings.specs.Table.{slope_row}
 use Rattle.settings.specs.Fields.{slope}
-use Rattle.differential.specs.declared.change.Changes.{Changes}
 use Rattle.findings.specs.declared.Findings.{Findings}
 use Rattle.findings.specs.DecisionRecord.{trip, phase_byte}
 use Rattle.decision.specs.Decision.{findings}
@@ -41,7 +41,7 @@ AtAnotherSlope =
 -- ---- what it does not move
 
 -- Bytes 0 to 4 and 8 to 31 are those of the record as it was, in which 5 to 7 were zero.
-abbrev pub none : Changes
+abbrev pub none : Phases ℕ
 none = record { a = 0; b = 0; c = 0 }
 
 abbrev pub bytes_before : Findings → List ℕ

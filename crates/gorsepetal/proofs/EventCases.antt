@@ -14,7 +14,7 @@ use Rattle.records.specs.Record.{Shape, frame_in}
 use Rattle.records.specs.Writer.{Wrote}
 use Rattle.records.proofs.Swapped.{swapped_bytes}
 use Rattle.records.proofs.Writing.{both}
-use Rattle.files.specs.Reader.{Ending, answer_of, wanted, Outcome, Stopped, More, Whole}
+use Rattle.files.specs.Reader.{Ending, refusal_of, wanted, Outcome, Stopped, More, Whole}
 use Rattle.events.specs.Slice.{reader_length, hand_at, held_in, hand_in, is_reader, reader_of, told, Opened, AtEnd, Read, read_left, frame_end}
 use Rattle.events.specs.declared.Step.{Step}
 use Rattle.events.specs.declared.Step.TheVariants as step
@@ -37,17 +37,17 @@ module _ {n : ℕ} {a : Answer} (g : n ≡ given_back a) where
 
 -- ---- what a step tells of the outcome
 
-stopped_by_lem : (o : Outcome) (a : Answer) → step.Ended a ≡ told o → (e : Ending) × (o ≡ Stopped e) × (a ≡ answer_of e)
+stopped_by_lem : (o : Outcome) (a : Refusal) → Err a ≡ told o → (e : Ending) × (o ≡ Stopped e) × (a ≡ refusal_of e)
 stopped_by_lem (Stopped e) a k = (e, refl, cc)
 stopped_by_lem More a k = let z : ◌≡◌ {A = ℕ} 0 1 = cc in absurd (omega arith)
 stopped_by_lem (Whole sh g) a k = let z : ◌≡◌ {A = ℕ} 0 1 = cc in absurd (omega arith)
 
-taken_by : (o : Outcome) → step.Taken ≡ told o → o ≡ More
+taken_by : (o : Outcome) → Ok step.Taken ≡ told o → o ≡ More
 taken_by (Stopped e) k = let z : ◌≡◌ {A = ℕ} 0 1 = cc in absurd (omega arith)
 taken_by More k = refl
 taken_by (Whole sh g) k = let z : ◌≡◌ {A = ℕ} 0 1 = cc in absurd (omega arith)
 
-whole_by : (o : Outcome) → step.Whole ≡ told o → (sh : Shape) × (g : List ℕ) × (o ≡ Whole sh g)
+whole_by : (o : Outcome) → Ok step.Whole ≡ told o → (sh : Shape) × (g : List ℕ) × (o ≡ Whole sh g)
 whole_by (Stopped e) k = let z : ◌≡◌ {A = ℕ} 0 1 = cc in absurd (omega arith)
 whole_by More k = let z : ◌≡◌ {A = ℕ} 0 1 = cc in absurd (omega arith)
 whole_by (Whole sh g) k = (sh, g, refl)
@@ -120,20 +120,20 @@ module _ {s r p out s₁ r₁ out₁ : List ℕ} {n : ℕ} where
         let u = ne_eqb (length r) reader_length m in
         record { given = rw (t, u) g; state = rw (t, u) k; reader = rw (t, u) j; buffer = rw (t, u) o }
 
-    module _ (m : length r ≡ reader_length) {a : Step} (d : Read r p a r₁) where
-      pub read_stopped : {b : Answer} → a ≡ step.Ended b → n ≡ given_back b → s₁ ≡ s → out₁ ≡ out → EventsRead s r p out n s₁ r₁ out₁
+    module _ (m : length r ≡ reader_length) {a : Result Step Refusal} (d : Read r p a r₁) where
+      pub read_stopped : {b : Refusal} → a ≡ Err b → n ≡ given_back (Err b) → s₁ ≡ s → out₁ ≡ out → EventsRead s r p out n s₁ r₁ out₁
       read_stopped {b} q g k o =
           let lent = both_lent_lem s r l m in
           let e = stopped_by_lem (piece_outcome r p) b (sym q ∙ d.step) in
           record { given = rw (lent, e.1) (g ∙ ap given_back e.2); state = rw (lent, e.1) k; reader = rw lent d.reader; buffer = rw (lent, e.1) o }
 
-      pub read_taken : a ≡ step.Taken → n ≡ 0 → s₁ ≡ s → out₁ ≡ out → EventsRead s r p out n s₁ r₁ out₁
+      pub read_taken : a ≡ Ok step.Taken → n ≡ 0 → s₁ ≡ s → out₁ ≡ out → EventsRead s r p out n s₁ r₁ out₁
       read_taken q g k o =
           let lent = both_lent_lem s r l m in
           let e = taken_by (piece_outcome r p) (sym q ∙ d.step) in
           record { given = rw (lent, e) g; state = rw (lent, e) k; reader = rw lent d.reader; buffer = rw (lent, e) o }
 
-      pub read_whole : {to : ℕ} → a ≡ step.Whole → to ≡ frame_end r₁ → Fed s (take (to - 12) (drop 12 r₁)) out n s₁ out₁ → EventsRead s r p out n s₁ r₁ out₁
+      pub read_whole : {to : ℕ} → a ≡ Ok step.Whole → to ≡ frame_end r₁ → Fed s (take (to - 12) (drop 12 r₁)) out n s₁ out₁ → EventsRead s r p out n s₁ r₁ out₁
       read_whole q t f =
           let w = whole_by (piece_outcome r p) (sym q ∙ d.step) in
           let lent = both_lent_lem s r l m in
