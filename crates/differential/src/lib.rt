@@ -9,11 +9,12 @@ ghost use Rattle.plane.specs.Sizes.{Inside, phasor_size};
 ghost use Rattle.phasors.specs.Grid.{cell};
 ghost use Rattle.phasors.specs.Sizes.{GridInside};
 ghost use Rattle.settings.specs.Table.{most_slope, most_counts};
-ghost use Rattle.settings.specs.Fields.{Ranges, slope, pickup};
+ghost use Rattle.settings.specs.Fields.{slope, pickup};
 ghost use Rattle.differential.specs.Differential.{end_restraint, comparison, comparisons, magnitude, operates, operating_bits};
 ghost use Rattle.differential.specs.Sizes.{Sized, AllSized, end_most, restraint_most};
 
-use plane::Phasor;
+use plane::{Phases, Phasor};
+use settings::Settings;
 
 // A magnitude in sixty-fourths of a count has 4096 times the square.
 const SIXTY_FOURTHS_SQUARED: u64 = 4096;
@@ -26,14 +27,6 @@ const SLOPE_SCALE: u64 = 40960000;
 pub struct Comparison {
     pub square: u64,
     pub restraint: u64,
-}
-
-// The same in the three phases.
-#[derive(Clone, Copy)]
-pub struct Comparisons {
-    pub a: Comparison,
-    pub b: Comparison,
-    pub c: Comparison,
 }
 
 // What one end adds to the restraint: its magnitude in sixty-fourths of a count, rounded up.
@@ -61,14 +54,14 @@ fn of_phase(grid: [[Phasor; 6]; 3], p: usize, ends: usize) -> Comparison
 }
 
 // What is compared in each phase, from the currents of all ends.
-pub fn of_phases(grid: [[Phasor; 6]; 3], ends: usize) -> Comparisons
+pub fn of_phases(grid: [[Phasor; 6]; 3], ends: usize) -> Phases<Comparison>
     requires { (ends ≤ 6) × GridInside grid ends }
     ensures { (result ≡ comparisons (cell grid) ends) × AllSized result }
 {
     let a = of_phase(grid, 0, ends);
     let b = of_phase(grid, 1, ends);
     let c = of_phase(grid, 2, ends);
-    Comparisons { a, b, c }
+    Phases { a, b, c }
 }
 
 // The magnitude of the differential in sixty-fourths of a count, rounded down.
@@ -89,12 +82,12 @@ pub fn operates(slope: u64, pickup: u64, x: Comparison) -> bool
 }
 
 // The phases that operate by a good settings record: a 1, b 2, c 4.
-pub fn operating_bits(s: &[u8], x: Comparisons) -> u8
-    requires { Ranges s.now × AllSized x }
-    ensures { (result ≡ operating_bits (slope s.now) (pickup s.now) x) × (result < 8) }
+pub fn operating_bits(s: Settings, x: Phases<Comparison>) -> u8
+    requires { AllSized x }
+    ensures { (result ≡ operating_bits (slope s.entry.bytes.now) (pickup s.entry.bytes.now) x) × (result < 8) }
 {
-    let slope = settings::fields::slope(s);
-    let pickup = settings::fields::pickup(s);
+    let slope = s.slope();
+    let pickup = s.pickup();
     let a = operates(slope, pickup, x.a);
     let b = operates(slope, pickup, x.b);
     let c = operates(slope, pickup, x.c);

@@ -6,9 +6,9 @@ ghost use Rattle.lent.specs.Lent.{over};
 ghost use Rattle.findings.specs.DecisionRecord.{balanced_fault, trip, word, decision_bytes};
 ghost use Rattle.findings.specs.Sizes.{FindingsSized};
 
-use differential::Comparisons;
-use differential::change::Changes;
+use differential::Comparison;
 use direction::Direction;
+use plane::Phases;
 
 // How many bytes a decision has.
 pub const LENGTH: usize = 32;
@@ -34,9 +34,9 @@ pub struct Findings {
     // which way the fault lies
     pub direction: Direction,
     // the slope at which each phase changes (document 02, CR 6)
-    pub changes: Changes,
+    pub changes: Phases<u8>,
     // what is compared in each phase
-    pub comparisons: Comparisons,
+    pub comparisons: Phases<Comparison>,
 }
 
 // A balanced fault, which has no direction: 3I2 is below its pickup, and AB, BC and CA all assert in the first zone (document 02, CR 4).
@@ -92,7 +92,7 @@ fn front(
     asserting: u8,
     direction: u8,
     overreaching: u8,
-    changes: Changes,
+    changes: Phases<u8>,
 ) -> [u8; LENGTH]
     ensures { result ≡ trip ∷ phases ∷ asserting ∷ direction ∷ overreaching ∷ changes.a ∷ changes.b ∷ changes.c ∷ replicate 24 0 }
 {
@@ -136,7 +136,7 @@ pub fn bytes(f: Findings) -> [u8; LENGTH]
         ),
         whole::six_bits(f.operating, f.quadrilaterals),
         f.asserting,
-        direction::number(direction),
+        u8::from(direction),
         f.overreaching,
         f.changes,
     );
