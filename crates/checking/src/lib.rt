@@ -1,185 +1,126 @@
 // The check of a settings record: the rules of the table, specs/Table.antt of `settings`, one after the other.
 #![tactic(auto)]
 
-ghost use Rattle.std.specs.Prelude.{◌≡◌, ◌+◌, ◌*◌, ◌<◌, length};
+ghost use Rattle.std.specs.Prelude.{◌≡◌, ◌+◌, ◌*◌, length};
 ghost use Rattle.settings.specs.Record.{record_length};
 ghost use Rattle.settings.specs.Table.{Unsigned, Signed, Squares, Below, OffOrFrom, Byte, differential_rows, distance_rows, angle_rows, direction_rows, tail_rows};
-ghost use Rattle.settings.specs.Check.{between, between_signed, off_or_between, judged, after, after_all, checked};
+ghost use Rattle.settings.specs.Check.{holds, judged, checked_by, checked};
 
-use settings::{Checked, LENGTH, at, byte, field, signed_field};
+use settings::{Fault, LENGTH, at, byte, field, signed_field};
 
-// The limits that have a name in the table, and the lower ones of signed fields.
-const MOST_ENDS: u64 = 6;
+// The limits that have a name in the table.
+const MOST_ENDS: u16 = 6;
 
-const MOST_SLOPE: u64 = 100;
+const MOST_SLOPE: u16 = 100;
 
-const MOST_COUNTS: u64 = 42000;
+const MOST_COUNTS: u16 = 42000;
 
-const MOST_REPLICA: u64 = 20000;
+const MOST_REPLICA: u16 = 20000;
 
-const MOST_REACH: u64 = 2000;
+const MOST_REACH: u16 = 2000;
 
-const MOST_K_REAL: u64 = 1000;
+const MOST_K_REAL: u16 = 1000;
 
-const LEAST_K_IMAGINARY: i64 = -500;
+const MOST_K_IMAGINARY: i16 = 500;
 
-const MOST_K_IMAGINARY: i64 = 500;
-
-const MOST_ANGLE: u64 = 1000;
+const MOST_ANGLE: u16 = 1000;
 
 const LEAST_SQUARES: u64 = 998000;
 
 const MOST_SQUARES: u64 = 1002000;
 
-const LEAST_LIMIT: i64 = -20000;
+const MOST_LIMIT: i16 = 20000;
 
-const MOST_LIMIT: i64 = 20000;
-
-const MOST_RESISTIVE_REACH: u64 = 1000;
-
-// From a least to a greatest number.
-fn between(v: u64, low: u64, high: u64) -> bool
-    ensures { result ≡ between low high v }
-{
-    if low <= v { v <= high } else { false }
-}
-
-// The same of signed numbers.
-fn between_signed(v: i64, low: i64, high: i64) -> bool
-    ensures { result ≡ between_signed low high v }
-{
-    if low <= v { v <= high } else { false }
-}
-
-// 0, or from a least to a greatest number.
-fn off_or_between(v: u64, low: u64, high: u64) -> bool
-    ensures { result ≡ off_or_between low high v }
-{
-    if v == 0 { true } else { between(v, low, high) }
-}
-
-// What the squares of two 16-bit numbers come to.
-fn sum_of_squares(x: u64, y: u64) -> u64
-    requires { (x < 65536) × (y < 65536) }
-    ensures { result ≡ x * x + y * y }
-{
-    x * x + y * y
-}
+const MOST_RESISTIVE_REACH: u16 = 1000;
 
 // What a test finds: nothing where the rule is kept, else a fault at an offset.
-fn judged(kept: bool, at: u8) -> Checked
+fn judged(kept: bool, at: u8) -> Result<(), Fault>
     ensures { result ≡ judged kept at }
 {
-    if kept {
-        Checked::Good
-    } else {
-        Checked::Bad(at)
-    }
+    if kept { Ok(()) } else { Err(Fault { at }) }
 }
 
-// One function for each kind of rule, which goes on from what the earlier rules found: a first fault stays. A test is made only where
-// there is none yet: so it becomes a branch, and a good record passes each rule in a few instructions. An offset is a u8, and the offset
-// after it is reckoned in more bits, so that it cannot overflow.
+// One function for each kind of rule.
 
 // The field at an offset is from a least to a greatest number.
-fn unsigned_rule(found: Checked, s: &[u8], at: u8, low: u64, high: u64) -> Checked
-    ensures { result ≡ after found s.now (Unsigned at low high) }
+fn unsigned_rule(s: &[u8], at: u8, low: u16, high: u16) -> Result<(), Fault>
+    ensures { result ≡ judged (holds s.now (Unsigned at low high)) at }
 {
-    match found {
-        Checked::Bad(k) => Checked::Bad(k),
-        Checked::Good => judged(between(field(s, at), low, high), at),
-    }
+    judged((low..=high).contains(&field(s, at)), at)
 }
 
 // The same of a signed field.
-fn signed_rule(found: Checked, s: &[u8], at: u8, low: i64, high: i64) -> Checked
-    ensures { result ≡ after found s.now (Signed at low high) }
+fn signed_rule(s: &[u8], at: u8, low: i16, high: i16) -> Result<(), Fault>
+    ensures { result ≡ judged (holds s.now (Signed at low high)) at }
 {
-    match found {
-        Checked::Bad(k) => Checked::Bad(k),
-        Checked::Good => judged(between_signed(signed_field(s, at), low, high), at),
-    }
+    judged((low..=high).contains(&signed_field(s, at)), at)
 }
 
 // The sum of the squares of two fields is from a least to a greatest number; a fault is at the later one.
-fn squares_rule(found: Checked, s: &[u8], x: u8, y: u8, low: u64, high: u64) -> Checked
-    ensures { result ≡ after found s.now (Squares x y low high) }
+fn squares_rule(s: &[u8], x: u8, y: u8, low: u64, high: u64) -> Result<(), Fault>
+    ensures { result ≡ judged (holds s.now (Squares x y low high)) y }
 {
-    match found {
-        Checked::Bad(k) => Checked::Bad(k),
-        Checked::Good => {
-            let sum = sum_of_squares(field(s, x), field(s, y));
-            judged(between(sum, low, high), y)
-        }
-    }
+    let first = u64::from(field(s, x));
+    let second = u64::from(field(s, y));
+    let sum = first * first + second * second;
+    judged((low..=high).contains(&sum), y)
 }
 
 // A signed field is below another; a fault is at the later one.
-fn below_rule(found: Checked, s: &[u8], x: u8, y: u8) -> Checked
-    ensures { result ≡ after found s.now (Below x y) }
+fn below_rule(s: &[u8], x: u8, y: u8) -> Result<(), Fault>
+    ensures { result ≡ judged (holds s.now (Below x y)) y }
 {
-    match found {
-        Checked::Bad(k) => Checked::Bad(k),
-        Checked::Good => judged(signed_field(s, x) < signed_field(s, y), y),
-    }
+    judged(signed_field(s, x) < signed_field(s, y), y)
 }
 
 // A field is 0, or from the number of another to a greatest one; a fault is at its own offset.
-fn off_or_from_rule(found: Checked, s: &[u8], x: u8, y: u8, high: u64) -> Checked
-    ensures { result ≡ after found s.now (OffOrFrom x y high) }
+fn off_or_from_rule(s: &[u8], x: u8, y: u8, high: u16) -> Result<(), Fault>
+    ensures { result ≡ judged (holds s.now (OffOrFrom x y high)) y }
 {
-    match found {
-        Checked::Bad(k) => Checked::Bad(k),
-        Checked::Good => judged(off_or_between(field(s, y), field(s, x), high), y),
-    }
+    let low = field(s, x);
+    let v = field(s, y);
+    judged(v == 0 || (low..=high).contains(&v), y)
 }
 
 // The byte at an offset is from a least to a greatest number.
-fn byte_rule(found: Checked, s: &[u8], at: u8, low: u64, high: u64) -> Checked
-    ensures { result ≡ after found s.now (Byte at low high) }
+fn byte_rule(s: &[u8], at: u8, low: u8, high: u8) -> Result<(), Fault>
+    ensures { result ≡ judged (holds s.now (Byte at low high)) at }
 {
-    match found {
-        Checked::Bad(k) => Checked::Bad(k),
-        Checked::Good => judged(between(byte(s, at as usize), low, high), at),
-    }
+    judged((low..=high).contains(&byte(s, usize::from(at))), at)
 }
 
-// The parts of the table, one function each: its rules in its order, gone on from what the earlier parts found.
+// The parts of the table, one function each: its rules in its order, up to the first that is broken.
 
 // N, and the differential's settings.
-fn differential_part(found: Checked, s: &[u8]) -> Checked
-    ensures { result ≡ after_all found s.now differential_rows }
+#[tactic(auto, unfolding(settings::specs::Check::checked_by))]
+fn differential_part(s: &[u8]) -> Result<(), Fault>
+    ensures { result ≡ checked_by differential_rows s.now }
 {
-    let found = unsigned_rule(found, s, at::ENDS, 2, MOST_ENDS);
-    let found = unsigned_rule(found, s, at::SLOPE, 1, MOST_SLOPE);
-    unsigned_rule(found, s, at::PICKUP, 1, MOST_COUNTS)
+    unsigned_rule(s, at::ENDS, 2, MOST_ENDS)?;
+    unsigned_rule(s, at::SLOPE, 1, MOST_SLOPE)?;
+    unsigned_rule(s, at::PICKUP, 1, MOST_COUNTS)
 }
 
 // The line's impedance, the reach and k.
-fn distance_part(found: Checked, s: &[u8]) -> Checked
-    ensures { result ≡ after_all found s.now distance_rows }
+#[tactic(auto, unfolding(settings::specs::Check::checked_by))]
+fn distance_part(s: &[u8]) -> Result<(), Fault>
+    ensures { result ≡ checked_by distance_rows s.now }
 {
-    let found = unsigned_rule(found, s, at::REPLICA_REAL, 0, MOST_REPLICA);
-    let found = unsigned_rule(found, s, at::REPLICA_IMAGINARY, 1, MOST_REPLICA);
-    let found = unsigned_rule(found, s, at::REACH, 1, MOST_REACH);
-    let found = unsigned_rule(found, s, at::K_REAL, 0, MOST_K_REAL);
-    signed_rule(
-        found,
-        s,
-        at::K_IMAGINARY,
-        LEAST_K_IMAGINARY,
-        MOST_K_IMAGINARY,
-    )
+    unsigned_rule(s, at::REPLICA_REAL, 0, MOST_REPLICA)?;
+    unsigned_rule(s, at::REPLICA_IMAGINARY, 1, MOST_REPLICA)?;
+    unsigned_rule(s, at::REACH, 1, MOST_REACH)?;
+    unsigned_rule(s, at::K_REAL, 0, MOST_K_REAL)?;
+    signed_rule(s, at::K_IMAGINARY, -MOST_K_IMAGINARY, MOST_K_IMAGINARY)
 }
 
 // The line angle D.
-fn angle_part(found: Checked, s: &[u8]) -> Checked
-    ensures { result ≡ after_all found s.now angle_rows }
+#[tactic(auto, unfolding(settings::specs::Check::checked_by))]
+fn angle_part(s: &[u8]) -> Result<(), Fault>
+    ensures { result ≡ checked_by angle_rows s.now }
 {
-    let found = unsigned_rule(found, s, at::ANGLE_REAL, 0, MOST_ANGLE);
-    let found = unsigned_rule(found, s, at::ANGLE_IMAGINARY, 0, MOST_ANGLE);
+    unsigned_rule(s, at::ANGLE_REAL, 0, MOST_ANGLE)?;
+    unsigned_rule(s, at::ANGLE_IMAGINARY, 0, MOST_ANGLE)?;
     squares_rule(
-        found,
         s,
         at::ANGLE_REAL,
         at::ANGLE_IMAGINARY,
@@ -189,34 +130,37 @@ fn angle_part(found: Checked, s: &[u8]) -> Checked
 }
 
 // zf, zr and the pickup of 3I2.
-fn direction_part(found: Checked, s: &[u8]) -> Checked
-    ensures { result ≡ after_all found s.now direction_rows }
+#[tactic(auto, unfolding(settings::specs::Check::checked_by))]
+fn direction_part(s: &[u8]) -> Result<(), Fault>
+    ensures { result ≡ checked_by direction_rows s.now }
 {
-    let found = signed_rule(found, s, at::FORWARD_LIMIT, LEAST_LIMIT, MOST_LIMIT);
-    let found = signed_rule(found, s, at::REVERSE_LIMIT, LEAST_LIMIT, MOST_LIMIT);
-    let found = below_rule(found, s, at::FORWARD_LIMIT, at::REVERSE_LIMIT);
-    unsigned_rule(found, s, at::NEGATIVE_SEQUENCE_PICKUP, 1, MOST_COUNTS)
+    signed_rule(s, at::FORWARD_LIMIT, -MOST_LIMIT, MOST_LIMIT)?;
+    signed_rule(s, at::REVERSE_LIMIT, -MOST_LIMIT, MOST_LIMIT)?;
+    below_rule(s, at::FORWARD_LIMIT, at::REVERSE_LIMIT)?;
+    unsigned_rule(s, at::NEGATIVE_SEQUENCE_PICKUP, 1, MOST_COUNTS)
 }
 
 // The second reach, the resistive reach, and the bytes that are zero so far.
-fn tail_part(found: Checked, s: &[u8]) -> Checked
-    ensures { result ≡ after_all found s.now tail_rows }
+#[tactic(auto, unfolding(settings::specs::Check::checked_by))]
+fn tail_part(s: &[u8]) -> Result<(), Fault>
+    ensures { result ≡ checked_by tail_rows s.now }
 {
-    let found = off_or_from_rule(found, s, at::REACH, at::SECOND_REACH, MOST_REACH);
-    let found = unsigned_rule(found, s, at::RESISTIVE_REACH, 0, MOST_RESISTIVE_REACH);
-    let found = byte_rule(found, s, 30, 0, 0);
-    byte_rule(found, s, 31, 0, 0)
+    off_or_from_rule(s, at::REACH, at::SECOND_REACH, MOST_REACH)?;
+    unsigned_rule(s, at::RESISTIVE_REACH, 0, MOST_RESISTIVE_REACH)?;
+    byte_rule(s, 30, 0, 0)?;
+    byte_rule(s, 31, 0, 0)
 }
 
 // The first fault of a record: the parts of the table, in its order.
-pub fn check(s: &[u8]) -> Checked
+#[tactic(auto, using(settings::proofs::Good::in_parts))]
+pub fn check(s: &[u8]) -> Result<(), Fault>
     requires { length s.now ≡ record_length }
     ensures { result ≡ checked s.now }
 {
-    let record = &s[0..LENGTH]; // a slice whose length the compiler knows, so that no byte's place is tested
-    let found = differential_part(Checked::Good, record);
-    let found = distance_part(found, record);
-    let found = angle_part(found, record);
-    let found = direction_part(found, record);
-    tail_part(found, record)
+    let record = s.as_array::<LENGTH>().unwrap(); // an array, so that no byte's place is tested
+    differential_part(record)?;
+    distance_part(record)?;
+    angle_part(record)?;
+    direction_part(record)?;
+    tail_part(record)
 }

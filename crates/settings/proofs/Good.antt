@@ -7,11 +7,12 @@ use mathlib.Core.Bool.{true}
 use native.Mathlib.Omega.{arith}
 use borrow.Author.Rules.{rules}
 use lib.IntN.{ℤ}
-use Rattle.std.proofs.Common.{Ok}
+use Rattle.std.proofs.Common.{◌++◌, Ok, ap, ◌∙◌}
+use Rattle.std.specs.Result.{result_and}
 use Rattle.std.proofs.lemmas.Bool.Decides.{nat_tests}
 use Rattle.std.proofs.lemmas.Int.{ints}
 use Rattle.settings.specs.Record.{field_at}
-use Rattle.settings.specs.Table.{Rule, Unsigned, Signed, Squares, Below, OffOrFrom, Byte, settings_table}
+use Rattle.settings.specs.Table.{Rule, Unsigned, Signed, Squares, Below, OffOrFrom, Byte, differential_rows, distance_rows, angle_rows, direction_rows, tail_rows, settings_table}
 use Rattle.settings.specs.Check.{between, between_signed, off_or_between, holds, fault, checked_by, FirstFault, here, later, checked}
 use Rattle.settings.specs.Fields.{From, FromSigned, Keeps, AllKept, Ranges}
 
@@ -57,6 +58,21 @@ pub all_kept : (rs : List Rule) (s : List ℕ) → checked_by rs s ≡ Ok tt →
 unfolding checked_by
 all_kept [] s g = tt
 all_kept (r ∷ rs) s g = grind (arith, keeps s r, all_kept rs s)
+
+-- a table in two parts: what the check finds in the first, and where that is nothing, what it finds in the second
+pub in_two : (rs us : List Rule) (s : List ℕ) → checked_by (rs ++ us) s ≡ result_and (checked_by rs s) (checked_by us s)
+unfolding checked_by
+in_two [] us s = refl
+in_two (r ∷ rs) us s = grind (arith, in_two rs us s)
+
+-- the parts of the settings table, each where the earlier ones find nothing
+pub in_parts : (s : List ℕ) → checked s ≡
+    result_and (checked_by differential_rows s) (result_and (checked_by distance_rows s)
+    (result_and (checked_by angle_rows s) (result_and (checked_by direction_rows s) (checked_by tail_rows s))))
+unfolding settings_table
+in_parts s =
+    in_two differential_rows _ s ∙ ap (result_and _) (in_two distance_rows _ s ∙ ap (result_and _) (in_two angle_rows _ s
+    ∙ ap (result_and _) (in_two direction_rows tail_rows s)))
 
 pub good : (rs : List Rule) (s : List ℕ) → AllKept rs s → checked_by rs s ≡ Ok tt
 unfolding checked_by

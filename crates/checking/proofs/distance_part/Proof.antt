@@ -1,7 +1,0 @@
--- `checking::distance_part` meets its contract: its calls are the rules of its part of the table, one after the other.
-use Rattle.checking.proofs.Chain.{next}
-use Rattle.checking.proofs.distance_part.Statement.{statement}
-use Rattle.checking.proofs.distance_part.Tie as tie
-
-pub distance_part_spec : {M : Type 1} → statement M
-distance_part_spec = tie.close (tie.spec (λ c κs. tt) (λ c κs. tt) (λ c κs. tt) (λ c κs. tt) (λ c κs. tt) (λ c. search next depth 20))
