@@ -112,7 +112,7 @@ turned_zero f = rw (times_zero f) (rounded_zero scale tt)
 -- what is rounded is document 01's one whole number
 
 pub sequence_is :
-    (f g : Phasor) (x : Phases) → let sum = plus (plus (scaled (pos scale) x.a) (times f x.b)) (times g x.c) in
+    (f g : Phasor) (x : Phases Phasor) → let sum = plus (plus (scaled (pos scale) x.a) (times f x.b)) (times g x.c) in
     Rounded scale sum.re (sequence f g x).re × Rounded scale sum.im (sequence f g x).im
 unfolding sequence
 sequence_is f g x = rounded_is scale tt refl _

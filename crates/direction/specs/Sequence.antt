@@ -21,13 +21,13 @@ unfoldable pub turned : Phasor → Phasor → Phasor
 turned f p = rounded scale (times f p)
 
 -- Xa + f Xb + g Xc, "formed at scale 16384 and each component is rounded by 16384"
-unfoldable pub sequence : Phasor → Phasor → Phases → Phasor
+unfoldable pub sequence : Phasor → Phasor → Phases Phasor → Phasor
 sequence f g x = rounded scale (plus (plus (scaled (pos scale) x.a) (times f x.b)) (times g x.c))
 
 -- "3V1 = Va + aVb + a²Vc"
-abbrev pub positive_sequence : Phases → Phasor
+abbrev pub positive_sequence : Phases Phasor → Phasor
 positive_sequence v = sequence a a² v
 
 -- "3I2 = Ia + a²Ib + aIc, and 3V2 likewise"
-abbrev pub negative_sequence : Phases → Phasor
+abbrev pub negative_sequence : Phases Phasor → Phasor
 negative_sequence i = sequence a² a i

@@ -59,7 +59,7 @@ no_positive z k r v i e =
 
 -- what is rounded is document 01's one whole number
 pub k_product_is :
-    (k : Phasor) (i : Phases) → let product = times k (residual i) in
+    (k : Phasor) (i : Phases Phasor) → let product = times k (residual i) in
     Rounded 1000 product.re (k_product k i).re × Rounded 1000 product.im (k_product k i).im
 unfolding k_product
 k_product_is k i = rounded_is 1000 tt refl _

@@ -27,4 +27,4 @@ NoPolarising = (z : Phasor) (r : ℤ) (l : Loop) → l.vp ≡ plane.zero → ass
 
 -- Nor does one of the six where 3V1 = 0.
 abbrev pub NoPositive : Type 0
-NoPositive = (z k : Phasor) (r : ℤ) (v i : Phases) → positive_sequence v ≡ plane.zero → loop_bits z r (loops_of k v i) ≡ 0
+NoPositive = (z k : Phasor) (r : ℤ) (v i : Phases Phasor) → positive_sequence v ≡ plane.zero → loop_bits z r (loops_of k v i) ≡ 0

@@ -13,11 +13,11 @@ use Rattle.direction.specs.Sequence.{a, a², turned, positive_sequence}
 -- ---- the loops
 
 -- Ia+Ib+Ic
-unfoldable pub residual : Phases → Phasor
+unfoldable pub residual : Phases Phasor → Phasor
 residual i = plus (plus i.a i.b) i.c
 
 -- "each component of the k product is rounded by 1000"
-unfoldable pub k_product : Phasor → Phases → Phasor
+unfoldable pub k_product : Phasor → Phases Phasor → Phasor
 k_product k i = rounded 1000 (times k (residual i))
 
 -- A ground loop, from the phase's V and I, the k product and P: "V = Va, I = Ia + k(Ia+Ib+Ic)"
@@ -30,7 +30,7 @@ phase_loop vx vy ix iy p = record { v = minus vx vy; i = minus ix iy; vp = minus
 
 -- The six from the k product, P, aP and a²P: "P = 3V1 for AG, a²P for BG, aP for CG", and "aP for AB, P for BC, a²P for CA"; "CA is c
 -- minus a"
-abbrev pub six_of : Phases → Phases → Phasor → Phasor → Phasor → Phasor → SixLoops
+abbrev pub six_of : Phases Phasor → Phases Phasor → Phasor → Phasor → Phasor → Phasor → SixLoops
 six_of v i k p ap a²p =
     record {
       ag = ground_loop v.a i.a k p;
@@ -42,7 +42,7 @@ six_of v i k p ap a²p =
     }
 
 -- The six of end 1, "where aP and a²P are rounded first"
-unfoldable pub loops_of : Phasor → Phases → Phases → SixLoops
+unfoldable pub loops_of : Phasor → Phases Phasor → Phases Phasor → SixLoops
 loops_of k v i = six_of v i (k_product k i) (positive_sequence v) (turned a (positive_sequence v)) (turned a² (positive_sequence v))
 
 -- ---- n and m, which no reach enters

@@ -2,28 +2,28 @@
 ghost use Rattle.std.specs.Prelude.{◌≡◌};
 ghost use Rattle.plane.specs.Sizes.{Inside};
 ghost use Rattle.settings.specs.Table.{most_replica};
-ghost use Rattle.settings.specs.Fields.{Ranges};
 ghost use Rattle.distance.specs.Constants.{replica, compensation};
 ghost use Rattle.distance.specs.Sizes.{Compensates};
 
 use plane::Phasor;
+use settings::Settings;
 
 // Z, the replica impedance, thousandths.
-pub fn replica(s: &[u8]) -> Phasor
-    requires { Ranges s.now }
-    ensures { (result ≡ replica s.now) × Inside most_replica result }
+pub fn replica(s: Settings) -> Phasor
+    ensures { (result ≡ replica s.entry.bytes.now) × Inside most_replica result }
 {
-    let re = settings::fields::replica_real(s);
-    let im = settings::fields::replica_imaginary(s);
-    Phasor { re, im }
+    Phasor {
+        re: s.replica_real(),
+        im: s.replica_imaginary(),
+    }
 }
 
 // k, thousandths.
-pub fn compensation(s: &[u8]) -> Phasor
-    requires { Ranges s.now }
-    ensures { (result ≡ compensation s.now) × Compensates result }
+pub fn compensation(s: Settings) -> Phasor
+    ensures { (result ≡ compensation s.entry.bytes.now) × Compensates result }
 {
-    let re = settings::fields::k_real(s);
-    let im = settings::fields::k_imaginary(s);
-    Phasor { re, im }
+    Phasor {
+        re: s.k_real(),
+        im: s.k_imaginary(),
+    }
 }

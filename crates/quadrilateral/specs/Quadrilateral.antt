@@ -47,6 +47,6 @@ unfoldable pub seeing : Phasor → ℤ → ℕ → Phasor → SixLoops → ℕ
 seeing z r R ir l = bits (sees z r R ir l.ag ∷ sees z r R ir l.bg ∷ sees z r R ir l.cg ∷ [])
 
 -- and by a settings record, with end 1's currents: "0 is off" and "Direction must be forward"
-unfoldable pub quadrilaterals_of : List ℕ → Phases → SixLoops → Direction → ℕ
+unfoldable pub quadrilaterals_of : List ℕ → Phases Phasor → SixLoops → Direction → ℕ
 quadrilaterals_of s i l d =
     cond (not (eqb (resistive_reach s) 0) && is_forward d) (seeing (replica s) (pos (reach s)) (resistive_reach s) (residual i) l) 0

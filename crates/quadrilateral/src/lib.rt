@@ -83,7 +83,7 @@ fn seeing(s: &[u8], ir: Phasor, l: SixLoops) -> u8
 }
 
 // The same where they are on and the fault lies ahead, from the currents of end 1 and its loops; else none.
-pub fn of_fault(s: &[u8], i: Phases, l: SixLoops, d: Direction) -> u8
+pub fn of_fault(s: &[u8], i: Phases<Phasor>, l: SixLoops, d: Direction) -> u8
     requires { Ranges s.now × AllInside phasor_size i × SixInside l }
     ensures { (result ≡ quadrilaterals_of s.now i l d) × (result < 8) }
 {

@@ -20,7 +20,7 @@ use Rattle.quadrilateral.proofs.of_fault.Statement.{statement}
 use Rattle.quadrilateral.proofs.of_fault.Tie as tie
 
 -- R is what was read of the record, and g whether the fault lies ahead
-module _ (s : List ℕ) (i : Phases) (l : SixLoops) (d : Direction) {R : ℕ} (e : R ≡ resistive_reach s) where
+module _ (s : List ℕ) (i : Phases Phasor) (l : SixLoops) (d : Direction) {R : ℕ} (e : R ≡ resistive_reach s) where
   off : R ≡ 0 → (0 ≡ quadrilaterals_of s i l d) × (0 < 8)
   unfolding quadrilaterals_of
   off z = (rw (← e, z), omega arith)
