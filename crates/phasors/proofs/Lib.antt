@@ -1,5 +1,4 @@
 -- Laws of the sums, the phasors and the grid.
 pub mod Weights
 pub mod Totals
-pub mod Cells
 pub mod Zero

@@ -4,7 +4,7 @@
 ghost use Rattle.std.specs.Prelude.{◌≡◌, ◌*◌, ◌<◌, ◌≤◌, ◌^◌, length};
 ghost use Rattle.plane.specs.Sizes.{Inside, AllInside, phasor_size};
 ghost use Rattle.samples.specs.Window.{window_length};
-ghost use Rattle.phasors.specs.Rate.{cosines, sixteen};
+ghost use Rattle.phasors.specs.Rate.{sixteen};
 ghost use Rattle.phasors.specs.Sums.{sample, with_sample, phasor_of};
 ghost use Rattle.phasors.specs.Sizes.{Summed, GridInside};
 ghost use Rattle.phasors.specs.Grid.{Filled, local_of, voltages_of};
@@ -24,7 +24,6 @@ const SHIFT: usize = 12;
 const DIVISOR: i64 = 131072;
 
 // The sums with one sample more: x C to the real part, -x S to the imaginary.
-#[tactic(auto, unfolding(crate::specs::Sums::with_sample))]
 fn with_sample(sums: Phasor, x: i16, c: i16, s: i16) -> Phasor
     requires { Inside (2 ^ 62) sums }
     ensures { result ≡ with_sample sums x c s }
@@ -75,7 +74,8 @@ pub fn voltages(window: &[i16], ends: usize) -> Phases<Phasor>
     }
 }
 
-// The currents of all ends, phase by end.
+// The currents of all ends, phase by end. The library takes no memory at run time, so the grid has room for as many ends as a line can have,
+// and `ends` says how many of them are filled.
 pub fn currents(window: &[i16], ends: usize) -> [[Phasor; 6]; 3]
     requires { (ends ≤ 6) × (window_length ends ≤ length window.now) }
     ensures { Filled sixteen window.now ends result × GridInside result ends }
@@ -83,8 +83,8 @@ pub fn currents(window: &[i16], ends: usize) -> [[Phasor; 6]; 3]
     let channels = samples::channels(ends);
     let mut grid = [[Phasor { re: 0, im: 0 }; 6]; 3];
     for e in 0..ends {
-        for p in 0..3 {
-            grid[p][e] = measure(window, channels, 3 + 3 * e + p);
+        for (p, phase) in grid.iter_mut().enumerate() {
+            phase[e] = measure(window, channels, 3 + 3 * e + p);
         }
     }
     grid

@@ -1,6 +1,5 @@
 -- A product of two samples is at most 2 ^ 30 in size, so the sums fit.
 use Rattle.std.proofs.Common.{rules}
-use Rattle.plane.proofs.Made.{pair}
 use Rattle.phasors.proofs.Weights.{product_added, product_taken_off}
 use Rattle.phasors.specs.Sums.{with_sample}
 use Rattle.phasors.proofs.with_sample.Goals as goal
