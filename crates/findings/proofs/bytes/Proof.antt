@@ -22,7 +22,7 @@ returns c =
     let w3 = m1.before in
     let w2 = w3.before in
     let f = w2.before.before in
-    let front = rw (f.before.before.before.trip.ensures, f.before.before.six_bits.ensures, f.before.number.ensures) at f.front-r.ensures in
+    let front = rw (f.before.before.before.trip.ensures, f.before.before.six_bits.ensures, f.before.from.ensures) at f.front-r.ensures in
     more 28 c.with_word.ensures
     (more 24 w5.with_word-r-5.ensures
     (more 20 w4.with_word-r-4.ensures
