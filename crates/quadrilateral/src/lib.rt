@@ -7,7 +7,7 @@ ghost use Rattle.whole.specs.Sizes.{Within};
 ghost use Rattle.plane.specs.Plane.{cross};
 ghost use Rattle.plane.specs.Sizes.{Inside, AllInside, phasor_size};
 ghost use Rattle.settings.specs.Table.{most_replica, most_reach, most_resistive_reach};
-ghost use Rattle.settings.specs.Fields.{Ranges, reach, resistive_reach};
+ghost use Rattle.settings.specs.Fields.{reach, resistive_reach};
 ghost use Rattle.distance.specs.Sizes.{loop_voltage_size, residual_size, LoopInside, SixInside};
 ghost use Rattle.distance.specs.Constants.{replica};
 ghost use Rattle.distance.specs.Mho.{residual};
@@ -18,6 +18,7 @@ use direction::Direction;
 use distance::constants;
 use distance::mho::{Loop, SixLoops};
 use plane::{Phases, Phasor};
+use settings::Settings;
 
 // Z and the reach are in thousandths, their product in millionths.
 const REACH_SCALE: i64 = 1000000;
@@ -69,13 +70,13 @@ fn sees(z: Phasor, r: i64, limit: u64, ir: Phasor, l: Loop) -> bool
 }
 
 // The three that see one by a good settings record: A 1, B 2, C 4.
-fn seeing(s: &[u8], ir: Phasor, l: SixLoops) -> u8
-    requires { Ranges s.now × Inside residual_size ir × SixInside l }
-    ensures { (result ≡ seeing (replica s.now) (pos (reach s.now)) (resistive_reach s.now) ir l) × (result < 8) }
+fn seeing(s: Settings, ir: Phasor, l: SixLoops) -> u8
+    requires { Inside residual_size ir × SixInside l }
+    ensures { (result ≡ seeing (replica s.entry.bytes.now) (pos (reach s.entry.bytes.now)) (resistive_reach s.entry.bytes.now) ir l) × (result < 8) }
 {
     let z = constants::replica(s);
-    let r = settings::fields::reach(s);
-    let limit = settings::fields::resistive_reach(s);
+    let r = s.reach();
+    let limit = s.resistive_reach();
     let a = sees(z, r, limit, ir, l.ag);
     let b = sees(z, r, limit, ir, l.bg);
     let c = sees(z, r, limit, ir, l.cg);
@@ -83,11 +84,11 @@ fn seeing(s: &[u8], ir: Phasor, l: SixLoops) -> u8
 }
 
 // The same where they are on and the fault lies ahead, from the currents of end 1 and its loops; else none.
-pub fn of_fault(s: &[u8], i: Phases<Phasor>, l: SixLoops, d: Direction) -> u8
-    requires { Ranges s.now × AllInside phasor_size i × SixInside l }
-    ensures { (result ≡ quadrilaterals_of s.now i l d) × (result < 8) }
+pub fn of_fault(s: Settings, i: Phases<Phasor>, l: SixLoops, d: Direction) -> u8
+    requires { AllInside phasor_size i × SixInside l }
+    ensures { (result ≡ quadrilaterals_of s.entry.bytes.now i l d) × (result < 8) }
 {
-    if settings::fields::resistive_reach(s) == 0 {
+    if s.resistive_reach() == 0 {
         return 0;
     }
     if direction::is_forward(d) {

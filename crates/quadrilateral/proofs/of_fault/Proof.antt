@@ -37,22 +37,15 @@ module _ (s : List ℕ) (i : Phases Phasor) (l : SixLoops) (d : Direction) {R : 
     not_ahead t = (rw (← e, ne_eqb R 0 on, ← told, t), omega arith)
 
 returns : tie.Need-returns-then-resistive_reach-eq0
-returns c = let a = c.before.before.before.args in off a.s.now a.i a.l a.d c.before.resistive_reach.ensures c.if-resistive_reach-eq0.true
+returns c = off c.args.s.bytes.now c.args.i c.args.l c.args.d c.resistive_reach.ensures c.if-resistive_reach-eq0.true
 
 returns-2 : tie.Need-returns-then-is_forward
 returns-2 c =
-    let then = c.before.before in
-    let told = then.before in
-    let on = told.before in
-    let a = on.before.before.before.args in
-    ahead a.s.now a.i a.l a.d on.before.resistive_reach.ensures on.if-resistive_reach-eq0.false told.is_forward.ensures then.if-is_forward.true c.before.residual.ensures.0 c.seeing.ensures
+    ahead c.args.s.bytes.now c.args.i c.args.l c.args.d c.resistive_reach.ensures c.if-resistive_reach-eq0.false c.is_forward.ensures c.if-is_forward.true c.residual.ensures.0 c.seeing.ensures
 
 returns-3 : tie.Need-returns-else-is_forward
 returns-3 c =
-    let told = c.before in
-    let on = told.before in
-    let a = on.before.before.before.args in
-    not_ahead a.s.now a.i a.l a.d on.before.resistive_reach.ensures on.if-resistive_reach-eq0.false told.is_forward.ensures c.if-is_forward.false
+    not_ahead c.args.s.bytes.now c.args.i c.args.l c.args.d c.resistive_reach.ensures c.if-resistive_reach-eq0.false c.is_forward.ensures c.if-is_forward.false
 
 pub of_fault_spec : {M : Type 1} → statement M
 of_fault_spec =

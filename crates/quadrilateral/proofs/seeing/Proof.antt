@@ -14,15 +14,15 @@ sees-requires c κs =
     let h = c.requires in
     simp (back r.result r.type_inv) (
       c.replica-z.ensures.1,
-      along r.ensures (reach_within h.0),
-      omega (arith, c.resistive_reach-limit.ensures, h.0.resistive_reach_range.most),
-      h.1,
-      h.2.ag_inside,
+      along r.ensures (reach_within c.args.s.good),
+      omega (arith, c.resistive_reach-limit.ensures, c.args.s.good.resistive_reach_range.most),
+      h.0,
+      h.1.ag_inside,
     )
 
 -- only the loop is another
 sees-requires-2 : tie.Need-sees-b-requires
-sees-requires-2 c κs = let f = sees-requires c.before.before κs in (f.0, f.1, f.2, f.3, c.requires.2.bg_inside)
+sees-requires-2 c κs = let f = sees-requires c.before.before κs in (f.0, f.1, f.2, f.3, c.requires.1.bg_inside)
 
 returns : tie.Need-returns
 unfolding seeing
@@ -46,5 +46,5 @@ pub seeing_spec : {M : Type 1} → statement M
 seeing_spec =
     tie.close
     (tie.spec
-    (λ c κs. search rules) (λ c κs. search rules) (λ c κs. search rules) sees-requires sees-requires-2 (λ c κs. (let f = sees-requires c.before.before.before.before κs in (f.0, f.1, f.2, f.3, c.requires.2.cg_inside))) (λ c κs. search rules)
+    (λ c κs. search rules) (λ c κs. search rules) (λ c κs. search rules) sees-requires sees-requires-2 (λ c κs. (let f = sees-requires c.before.before.before.before κs in (f.0, f.1, f.2, f.3, c.requires.1.cg_inside))) (λ c κs. search rules)
     returns)
