@@ -29,13 +29,17 @@ pub fn window_length(s: Settings) -> usize
 }
 
 // Which of the six loops of end 1 assert in each zone, at the reaches in force. In the second zone none does where it is off.
+#[tactic(auto, using(crate::proofs::Cases::at_reach, crate::proofs::Cases::at_second, crate::proofs::Cases::second_off))]
 fn zones(s: Settings, l: SixLoops) -> Zones<u8>
     requires { SixInside l }
     ensures { (result.first ≡ asserting_bits s.entry.bytes.now l) × (result.second ≡ overreaching_bits s.entry.bytes.now l) }
 {
-    let second_reach = s.second_reach();
-    let seen = distance::mho::zone_bits(s, s.reach(), second_reach, l);
-    if second_reach == 0 {
+    let reach = Zones {
+        first: s.reach(),
+        second: s.second_reach(),
+    };
+    let seen = distance::mho::zone_bits(s, reach, l);
+    if reach.second == 0 {
         return Zones { second: 0, ..seen };
     }
     seen
@@ -94,6 +98,7 @@ fn decision(s: Settings, window: &[i16]) -> [u8; LENGTH]
 }
 
 // The decision on a window, at the front of a lent buffer, by a good settings record.
+#[tactic(auto, using(crate::proofs::Cases::place_fits, crate::proofs::Cases::decide_0))]
 fn decide_by(s: Settings, window: &[i16], out: &mut [u8]) -> Answer
     ensures { Decided s.entry.bytes.now window.now out.old result out.new }
 {
@@ -113,6 +118,7 @@ fn decide_by(s: Settings, window: &[i16], out: &mut [u8]) -> Answer
 }
 
 // The same by a record of 32 bytes: a slice whose length the compiler knows, so that no byte's place is tested.
+#[tactic(auto, using(crate::proofs::Cases::good_front, crate::proofs::Cases::decided_front))]
 pub fn decide(s: Settings, window: &[i16], out: &mut [u8]) -> Answer
     requires { length s.bytes.now ≡ record_length }
     ensures { Decided s.entry.bytes.now window.now out.old result out.new }
