@@ -8,19 +8,29 @@ use native.Mathlib.Omega.{arith}
 use borrow.Author.Tests.{lt-ltb, le-ltb, ltb-true, ltb-false}
 use lib.Dec.{ltb}
 use lib.IntN.{ℤ, pos, negsuc, ◌-ℤ◌}
-use lib.ListN.{length, take, set, get_or}
+use lib.ListN.{length, take, get_or}
 use lib.Seq.{take-suc, length-take-le}
+use mir.Syntax.{w16}
+use mir.Val.{SFits}
+use Rattle.std.specs.Int.{to_be_bytes, cast_unsigned}
 use Rattle.whole.specs.TwosComplement.{signed, unsigned}
-use Rattle.whole.proofs.TwosComplement.{from_32768}
+use Rattle.whole.proofs.TwosComplement.{from_32768, cast_unsigned_is}
 use Rattle.lent.specs.Lent.{over}
-use Rattle.lent.proofs.Over.{over_over, over_none, over_two}
+use Rattle.lent.proofs.Over.{over_over, over_none}
 use Rattle.samples.specs.Window.{numbers_of}
 use Rattle.stream.specs.Stored.{word, bytes_of, Sample}
 use Rattle.lent.specs.Bytes.{Every, Byte}
 
--- two stores are a word written
-pub word_put : (d : List ℕ) (at v : ℕ) → at + 2 ≤ length d → set (set d at (v / 256)) (at + 1) (v % 256) ≡ over d at (word v)
-word_put d at v room = over_two d at (v / 256) (v % 256) room
+-- what std's `to_be_bytes` gives, of a count and of a number
+pub word_is : (v : ℕ) → v < 65536 → to_be_bytes w16 v ≡ word v
+word_is v h = ap (λ (high : ℕ). high ∷ v % 256 ∷ []) (omega arith)
+
+pub number_word : (x : ℤ) → SFits w16 x → to_be_bytes w16 (cast_unsigned w16 x) ≡ word (unsigned x)
+number_word x h = rw (cast_unsigned_is x) (word_is (unsigned x) (in_16 x h))
+  where
+    in_16 : (x : ℤ) → SFits w16 x → unsigned x < 65536
+    in_16 (pos n) h = omega (arith, h.sfits)
+    in_16 (negsuc n) h = omega arith
 
 pub bytes_length : (xs : List ℤ) → length (bytes_of xs) ≡ 2 * length xs
 unfolding bytes_of
@@ -75,9 +85,17 @@ unfolding bytes_of
 put_none d at = over_none d at
 
 pub put_more :
-    (d s : List ℕ) (at : ℕ) (xs : List ℤ) (i : ℕ) → at ≤ length d → i < length xs → s ≡ over d at (bytes_of (take i xs)) →
-    over s (at + 2 * i) (word (unsigned (get_or xs i (pos 0)))) ≡ over d at (bytes_of (take (i + 1) xs))
-put_more d s at xs i room more e =
+    (d s : List ℕ) (at : ℕ) (xs : List ℤ) (i : ℕ) (bytes : List ℕ) → at ≤ length d → i < length xs → s ≡ over d at (bytes_of (take i xs)) →
+    SFits w16 (get_or xs i (pos 0)) → bytes ≡ to_be_bytes w16 (cast_unsigned w16 (get_or xs i (pos 0))) →
+    over s (at + 2 * i) bytes ≡ over d at (bytes_of (take (i + 1) xs))
+put_more d s at xs i bytes room more e fits b =
     let v : List ℕ = word (unsigned (get_or xs i (pos 0))) in
-    ap₂ (λ (l : List ℕ) (n : ℕ). over l (at + n) v) e (sym (bytes_first xs i (omega arith))) ∙ over_over d at (bytes_of (take i xs)) room v
+    ap₂ (λ (l : List ℕ) (n : ℕ). over l (at + n) bytes) e (sym (bytes_first xs i (omega arith)))
+    ∙ rw (b, number_word (get_or xs i (pos 0)) fits) (over_over d at (bytes_of (take i xs)) room v)
     ∙ ap (over d at) (sym (bytes_more xs i more))
+
+-- a count written, and numbers right behind it
+pub put_counted :
+    (d : List ℕ) (at v : ℕ) (xs : List ℤ) → at ≤ length d → v < 65536 →
+    over (over d at (to_be_bytes w16 v)) (at + 2) (bytes_of xs) ≡ over d at (word v ++ bytes_of xs)
+put_counted d at v xs room few = rw (word_is v few) (over_over d at (word v) room (bytes_of xs))

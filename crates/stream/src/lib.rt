@@ -2,12 +2,11 @@
 // by that frame, and written back.
 #![tactic(auto)]
 
-ghost use Rattle.std.specs.Prelude.{◌≡◌, ◌+◌, ◌*◌, ◌≤◌, length, take};
-ghost use Rattle.std.proofs.Math.Seq.{paste};
+ghost use Rattle.std.specs.Prelude.{◌≡◌, ◌+◌, ◌*◌, ◌≤◌, length};
 ghost use Rattle.lent.specs.Lent.{over};
 ghost use Rattle.samples.specs.Window.{frames, window_length};
 ghost use Rattle.stream.specs.Window.{shifted, counted, moved_on, none, HasRoom};
-ghost use Rattle.stream.specs.Stored.{stored_length, word, window_at, bytes_of, stored_first, stored, kept};
+ghost use Rattle.stream.specs.Stored.{stored_length, window_at, bytes_of, stored_first, stored, kept};
 
 use samples::{FRAMES, LONGEST};
 
@@ -24,35 +23,79 @@ pub struct Window {
     pub count: u16,
 }
 
-// The window of a fresh relay, and of one whose settings were just confirmed.
-pub fn empty() -> Window
-    ensures { result ≡ none }
-{
-    Window {
-        numbers: [0i16; LONGEST],
-        count: 0,
+impl Window {
+    // The window of a fresh relay, and of one whose settings were just confirmed.
+    pub fn empty() -> Window
+        ensures { result ≡ none }
+    {
+        Window {
+            numbers: [0; LONGEST],
+            count: 0,
+        }
     }
-}
 
-// Writes src over dst, from `at` on.
-fn copy(dst: &mut [i16], at: usize, src: &[i16])
-    requires { at + length src.now ≤ length dst.old }
-    ensures { dst.new ≡ paste dst.old at src.now (length src.now) }
-{
-    for j in 0..src.len() {
-        dst[at + j] = src[j];
+    // The window that lies in a relay's state from `at` on: the count and then the numbers, all 16-bit big-endian.
+    #[tactic(auto, using(crate::proofs::Reading::read))]
+    pub fn from_bytes(state: &[u8], at: usize) -> Window
+        requires { at + stored_length ≤ length state.now }
+        ensures { result ≡ window_at state.now at }
+    {
+        let count = u16::from_be_bytes([state[at], state[at + 1]]);
+        let mut numbers = [0; LONGEST];
+        samples::numbers(&state[at + 2..at + STORED_LENGTH], &mut numbers);
+        Window { numbers, count }
+    }
+
+    // A window moved on by one frame, by value.
+    pub fn with_frame(self, frame: &[i16]) -> Window
+        requires { HasRoom frames (length frame.now) }
+        ensures { result ≡ moved_on frames (length frame.now) self frame.now }
+    {
+        Window {
+            numbers: shifted(self.numbers, frame),
+            count: counted(self.count),
+        }
+    }
+
+    // The window that is lent here is found moved on by one frame.
+    pub fn moved_on(&mut self, frame: &[i16])
+        requires { HasRoom frames (length frame.now) }
+        ensures { self.new ≡ moved_on frames (length frame.now) self.old frame.now }
+    {
+        *self = self.with_frame(frame);
+    }
+
+    // The count and the first k numbers, written to where the window lies in a relay's state.
+    #[tactic(auto, using(crate::proofs::Bytes::put_counted))]
+    fn put_first(self, k: usize, state: &mut [u8], at: usize)
+        requires { (k ≤ window_length 6) × (at + 2 + 2 * k ≤ length state.old) }
+        ensures { state.new ≡ over state.old at (stored_first k self) }
+    {
+        lent::put(state, at, &self.count.to_be_bytes());
+        put_numbers(&self.numbers[..k], state, at + 2);
+    }
+
+    // A whole window written there.
+    #[tactic(auto, using(crate::proofs::Storing::all_first))]
+    pub fn put_bytes(self, state: &mut [u8], at: usize)
+        requires { at + stored_length ≤ length state.old }
+        ensures { state.new ≡ over state.old at (stored self) }
+    {
+        self.put_first(LONGEST, state, at);
     }
 }
 
 // The numbers with the oldest frame gone and the new one last. Those behind the frames stay.
-fn shifted(old: [i16; LONGEST], frame: &[i16], channels: usize) -> [i16; LONGEST]
-    requires { HasRoom frames channels × (length frame.now ≡ channels) }
-    ensures { result ≡ shifted frames channels old frame.now }
+#[tactic(auto, using(crate::proofs::Moving::moved))]
+fn shifted(old: [i16; LONGEST], frame: &[i16]) -> [i16; LONGEST]
+    requires { HasRoom frames (length frame.now) }
+    ensures { result ≡ shifted frames (length frame.now) old frame.now }
 {
+    let channels = frame.len();
     let end = FRAMES * channels;
     let mut numbers = old;
-    copy(&mut numbers, 0, &old[channels..end]);
-    copy(&mut numbers, end - channels, frame);
+    lent::put(&mut numbers, 0, &old[channels..end]);
+    lent::put(&mut numbers, end - channels, frame);
     numbers
 }
 
@@ -63,97 +106,15 @@ fn counted(count: u16) -> u16
     if count < FULL { count + 1 } else { FULL }
 }
 
-// A window moved on by one frame, by value.
-pub fn with_frame(w: Window, frame: &[i16], channels: usize) -> Window
-    requires { HasRoom frames channels × (length frame.now ≡ channels) }
-    ensures { result ≡ moved_on frames channels w frame.now }
+// Numbers written big-endian, one after another.
+#[tactic(auto, using(crate::proofs::Bytes::put_none, crate::proofs::Bytes::put_more))]
+fn put_numbers(numbers: &[i16], state: &mut [u8], at: usize)
+    requires { at + 2 * length numbers.now ≤ length state.old }
+    ensures { state.new ≡ over state.old at (bytes_of numbers.now) }
 {
-    let old = w.numbers;
-    let numbers = shifted(old, frame, channels);
-    let count = counted(w.count);
-    Window {
-        numbers: numbers,
-        count: count,
+    for (i, x) in numbers.iter().enumerate() {
+        lent::put(state, at + 2 * i, &x.to_be_bytes());
     }
-}
-
-// The window that is lent here is found moved on by one frame.
-pub fn moved_on(w: &mut Window, frame: &[i16], channels: usize)
-    requires { HasRoom frames channels × (length frame.now ≡ channels) }
-    ensures { w.new ≡ moved_on frames channels w.old frame.now }
-{
-    *w = with_frame(*w, frame, channels);
-}
-
-// Lends a window that is held by value to `moved_on`, and hands it back.
-pub fn lend(w: Window, frame: &[i16], channels: usize) -> Window
-    requires { HasRoom frames channels × (length frame.now ≡ channels) }
-    ensures { result ≡ moved_on frames channels w frame.now }
-{
-    let mut lent = w;
-    moved_on(&mut lent, frame, channels);
-    lent
-}
-
-// The number that two bytes are, the high one first.
-fn word(high: u8, low: u8) -> u16
-    ensures { result ≡ high * 256 + low }
-{
-    (high as u16) * 256 + (low as u16)
-}
-
-// The window that lies in a relay's state from `at` on: the count and then the numbers, all 16-bit big-endian.
-pub fn from_bytes(state: &[u8], at: usize) -> Window
-    requires { at + stored_length ≤ length state.now }
-    ensures { result ≡ window_at state.now at }
-{
-    let count = word(state[at], state[at + 1]);
-    let first = at + 2;
-    let end = at + STORED_LENGTH;
-    let mut numbers = [0i16; LONGEST];
-    samples::numbers(&state[first..end], &mut numbers);
-    Window {
-        numbers: numbers,
-        count: count,
-    }
-}
-
-// A 16-bit number written big-endian.
-fn put_word(state: &mut [u8], at: usize, v: u16)
-    requires { at + 2 ≤ length state.old }
-    ensures { state.new ≡ over state.old at (word v) }
-{
-    state[at] = (v / 256) as u8;
-    state[at + 1] = (v % 256) as u8;
-}
-
-// The first k numbers of a window written so, one after another.
-fn put_numbers(numbers: [i16; LONGEST], k: usize, state: &mut [u8], at: usize)
-    requires { (k ≤ window_length 6) × (at + 2 * k ≤ length state.old) }
-    ensures { state.new ≡ over state.old at (bytes_of (take k numbers)) }
-{
-    for i in 0..k {
-        let x = numbers[i];
-        put_word(state, at + 2 * i, whole::unsigned(x));
-    }
-}
-
-// The count of a window and its first k numbers, written to where the window lies in a relay's state.
-fn put_first(w: Window, k: usize, state: &mut [u8], at: usize)
-    requires { (k ≤ window_length 6) × (at + 2 + 2 * k ≤ length state.old) }
-    ensures { state.new ≡ over state.old at (stored_first k w) }
-{
-    put_word(state, at, w.count);
-    let numbers = w.numbers;
-    put_numbers(numbers, k, state, at + 2);
-}
-
-// A whole window written there.
-pub fn put_bytes(w: Window, state: &mut [u8], at: usize)
-    requires { at + stored_length ≤ length state.old }
-    ensures { state.new ≡ over state.old at (stored w) }
-{
-    put_first(w, LONGEST, state, at);
 }
 
 // The window in a relay's state emptied: what a confirmation does.
@@ -161,17 +122,18 @@ pub fn clear(state: &mut [u8], at: usize)
     requires { at + stored_length ≤ length state.old }
     ensures { state.new ≡ over state.old at (stored none) }
 {
-    put_bytes(empty(), state, at);
+    Window::empty().put_bytes(state, at);
 }
 
 // A frame kept in a relay's state. The window is read, lent, and written back as far as its frames go; the numbers behind them stand there
 // already. The window as it is now comes back.
-pub fn keep(state: &mut [u8], at: usize, frame: &[i16], channels: usize) -> Window
-    requires { (at + stored_length ≤ length state.old) × HasRoom frames channels × (length frame.now ≡ channels) }
-    ensures { (result ≡ moved_on frames channels (window_at state.old at) frame.now)
-        × (state.new ≡ kept frames channels at state.old frame.now) }
+pub fn keep(state: &mut [u8], at: usize, frame: &[i16]) -> Window
+    requires { (at + stored_length ≤ length state.old) × HasRoom frames (length frame.now) }
+    ensures { (result ≡ moved_on frames (length frame.now) (window_at state.old at) frame.now)
+        × (state.new ≡ kept frames (length frame.now) at state.old frame.now) }
 {
-    let w = lend(from_bytes(state, at), frame, channels);
-    put_first(w, FRAMES * channels, state, at);
+    let mut w = Window::from_bytes(state, at);
+    w.moved_on(frame);
+    w.put_first(FRAMES * frame.len(), state, at);
     w
 }
