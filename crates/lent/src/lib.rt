@@ -4,12 +4,16 @@
 ghost use Rattle.std.specs.Prelude.{◌≡◌, ◌+◌, ◌<◌, ◌≤◌, length, IfSome};
 ghost use Rattle.lent.specs.Lent.{over, first_difference};
 
-// Writes src over dst, from `at` on; what stands before and after stays.
+// Writes src over dst, from `at` on; what stands before and after stays. No `copy_from_slice`: it calls memmove where the length is no
+// constant, and the archive is to need memcpy and memset alone (include/gorsepetal.h).
+#[tactic(auto, using(crate::proofs::Over::over_more))]
 pub fn put<T: Copy>(dst: &mut [T], at: usize, src: &[T])
     requires { at + length src.now ≤ length dst.old }
     ensures { dst.new ≡ over dst.old at src.now }
 {
-    dst[at..at + src.len()].copy_from_slice(src);
+    for (j, &x) in src.iter().enumerate() {
+        dst[at + j] = x;
+    }
 }
 
 // The first place at which two slices of one length differ.
