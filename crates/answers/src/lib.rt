@@ -1,5 +1,5 @@
-// The numbers given back (document 01, "Numbers given back"; 9 and 10 are of document 02, CR 1, and 11 to 13 of CR 5): each refusal by name,
-// and the one number that C gets.
+// The numbers given back (document 01, "Numbers given back"; 9 and 10 are of document 02, CR 1, and 11 to 13 of CR 5): each refusal by
+// name, and the one number that C gets.
 #![tactic(auto)]
 
 ghost use Rattle.std.specs.Prelude.{◌≡◌, ◌<◌, Err};

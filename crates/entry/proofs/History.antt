@@ -5,9 +5,9 @@ use mathlib.Core.Path.{◌≡◌, refl, sym, ap, ◌∙◌}
 use mathlib.Core.Logic.{◌⊎◌, inl, inr, ⊎_elim}
 use mathlib.Core.List.{List}
 use mathlib.Core.Bool.{Bool, true, false, cond}
-use Rattle.answers.specs.declared.Answer.{Answer}
-use Rattle.answers.specs.declared.Answer.TheVariants.{Done, NothingPending}
-use Rattle.answers.specs.Answers.{given_back, is_done}
+use Rattle.std.specs.Prelude.{Ok, Err}
+use Rattle.answers.specs.declared.Refusal.TheVariants.{NothingPending}
+use Rattle.answers.specs.Answers.{Answer, given_back, is_done}
 use Rattle.answers.proofs.Numbers.{zero_is, done_zero, refused_not_zero, not_zero_refused}
 use Rattle.lent.proofs.Differences.{difference_same}
 use Rattle.entry.specs.Pair.{Pair, nothing}
@@ -17,7 +17,7 @@ use Rattle.entry.proofs.Done.{FullPair, proposed_sized, confirmed_sized, confirm
 use native.Mathlib.Omega.{arith}
 use Prim.Native.Nat.{ℕ}
 
-module _ (verdict : List ℕ → Answer) (blank : verdict nothing ≡ Done → ⊥) where
+module _ (verdict : List ℕ → Answer) (blank : verdict nothing ≡ Ok tt → ⊥) where
   leads_sized : {l : Log} {p : Pair} → Leads verdict l p → FullPair p
   leads_sized from_fresh = record { force = refl; pending = refl }
   leads_sized (by_propose {p = p} d e) = proposed_sized (verdict e) p e (leads_sized d)
@@ -27,30 +27,30 @@ module _ (verdict : List ℕ → Answer) (blank : verdict nothing ≡ Done → �
   data Said (r : List ℕ) : Log → Type 0 where
     last : (l : Log) → Said r (l ▷ propose r 0)
 
-  pending_said : {l : Log} {p : Pair} → Leads verdict l p → verdict p.pending ≡ Done → Said p.pending l
+  pending_said : {l : Log} {p : Pair} → Leads verdict l p → verdict p.pending ≡ Ok tt → Said p.pending l
   pending_said from_fresh g = absurd (blank g)
   pending_said (by_propose {l} d e) g = by_test (is_done (propose_answer (verdict e) e)) refl g
     where
-      by_test : (b : Bool) → is_done (propose_answer (verdict e) e) ≡ b → verdict (cond b e nothing) ≡ Done → Said (cond b e nothing) (l ▷ propose e (given_back (propose_answer (verdict e) e)))
+      by_test : (b : Bool) → is_done (propose_answer (verdict e) e) ≡ b → verdict (cond b e nothing) ≡ Ok tt → Said (cond b e nothing) (l ▷ propose e (given_back (propose_answer (verdict e) e)))
       by_test true t g = rw (done_zero (propose_answer (verdict e) e) t) (last l)
       by_test false t g = absurd (blank g)
   pending_said (by_confirm d e) g = absurd (blank g)
 
   -- a confirmation that is done is of the pending record, which is good
-  confirmed_good : {l : Log} {p : Pair} → Leads verdict l p → (e : List ℕ) → is_done (confirm_answer (standing (verdict p.pending)) p e) ≡ true → (p.pending ≡ e) × (verdict p.pending ≡ Done)
+  confirmed_good : {l : Log} {p : Pair} → Leads verdict l p → (e : List ℕ) → is_done (confirm_answer (standing (verdict p.pending)) p e) ≡ true → (p.pending ≡ e) × (verdict p.pending ≡ Ok tt)
   confirmed_good {p = p} d e t =
       let done = confirm_done (standing (verdict p.pending)) p e t in
-      (difference_same p.pending e ((leads_sized d).pending ∙ sym done.0) done.2, stored_done (verdict p.pending) NothingPending refl done.1)
+      (difference_same p.pending e ((leads_sized d).pending ∙ sym done.0) done.2, stored_done (verdict p.pending) (Err NothingPending) refl done.1)
 
   said_twice : {r : List ℕ} {l : Log} → Said r l → SaidTwice r (l ▷ confirm r 0)
   said_twice (last l) = twice l
 
-  pub in_force_said_twice : {l : Log} {p : Pair} → Leads verdict l p → verdict p.force ≡ Done → SaidTwice p.force l
+  pub in_force_said_twice : {l : Log} {p : Pair} → Leads verdict l p → verdict p.force ≡ Ok tt → SaidTwice p.force l
   in_force_said_twice from_fresh g = absurd (blank g)
   in_force_said_twice (by_propose d e) g = later (in_force_said_twice d g) tt
   in_force_said_twice (by_confirm {l} {p} d e) g = by_test (is_done (confirm_answer (standing (verdict p.pending)) p e)) refl (λ k. in_force_said_twice d k) g
     where
-      by_test : (b : Bool) → is_done (confirm_answer (standing (verdict p.pending)) p e) ≡ b → (verdict p.force ≡ Done → SaidTwice p.force l) → verdict (cond b e p.force) ≡ Done → SaidTwice (cond b e p.force) (l ▷ confirm e (given_back (confirm_answer (standing (verdict p.pending)) p e)))
+      by_test : (b : Bool) → is_done (confirm_answer (standing (verdict p.pending)) p e) ≡ b → (verdict p.force ≡ Ok tt → SaidTwice p.force l) → verdict (cond b e p.force) ≡ Ok tt → SaidTwice (cond b e p.force) (l ▷ confirm e (given_back (confirm_answer (standing (verdict p.pending)) p e)))
       by_test true t before g =
           let k = confirmed_good d e t in
           rw (done_zero (confirm_answer (standing (verdict p.pending)) p e) t) (said_twice (rw k.0 at (pending_said d k.1)))
@@ -67,7 +67,7 @@ module _ (verdict : List ℕ → Answer) (blank : verdict nothing ≡ Done → �
   same_entry : (e r : List ℕ) (n : ℕ) → confirm e n ≡ confirm r 0 → (e ≡ r) × (n ≡ 0)
   same_entry e r n z = (cc, cc)
 
-  pub said_twice_in_force : {r : List ℕ} {l : Log} {p : Pair} → Leads verdict l p → SaidTwice r l → (p.force ≡ r) × (verdict r ≡ Done)
+  pub said_twice_in_force : {r : List ℕ} {l : Log} {p : Pair} → Leads verdict l p → SaidTwice r l → (p.force ≡ r) × (verdict r ≡ Ok tt)
   said_twice_in_force from_fresh t = elim t [ ]
   said_twice_in_force (by_propose d e) t =
       ⊎_elim (λ z. absurd (never_both _ _ _ z)) (λ k. said_twice_in_force d k.0) (last_entry t)
@@ -76,12 +76,12 @@ module _ (verdict : List ℕ → Answer) (blank : verdict nothing ≡ Done → �
       a : Answer
       a = confirm_answer (standing (verdict p.pending)) p e
 
-      now : confirm e (given_back a) ≡ confirm r 0 → (cond (is_done a) e p.force ≡ r) × (verdict r ≡ Done)
+      now : confirm e (given_back a) ≡ confirm r 0 → (cond (is_done a) e p.force ≡ r) × (verdict r ≡ Ok tt)
       now z =
           let k = same_entry e r (given_back a) z in
           let done = ap is_done (zero_is a k.1) in
           let g = confirmed_good d e done in
           (rw done k.0, rw (sym k.0, sym g.0) g.1)
 
-      before : (given_back a ≡ 0 → ⊥) → (p.force ≡ r) × (verdict r ≡ Done) → (cond (is_done a) e p.force ≡ r) × (verdict r ≡ Done)
+      before : (given_back a ≡ 0 → ⊥) → (p.force ≡ r) × (verdict r ≡ Ok tt) → (cond (is_done a) e p.force ≡ r) × (verdict r ≡ Ok tt)
       before k so = rw (not_zero_refused a k) so

@@ -1,8 +1,7 @@
 -- Demand 1 over histories (document 01, "Settings record"): what a log of the entries to a pair of records shows. A log has each entry with
 -- the number given back, as a tester would keep it. `verdict` says what counts as a good record.
 use Rattle.std.specs.Prelude.{ℕ, ◌≡◌, List}
-use Rattle.answers.specs.declared.Answer.{Answer}
-use Rattle.answers.specs.Answers.{given_back}
+use Rattle.answers.specs.Answers.{Answer, given_back}
 use Rattle.entry.specs.Pair.{Pair, fresh}
 use Rattle.entry.specs.Entry.{propose_answer, proposed, standing, confirm_answer, confirmed}
 

@@ -3,12 +3,11 @@
 #![tactic(auto)]
 
 ghost use Rattle.std.specs.Prelude.{◌≡◌, ◌+◌, ◌≤◌, length};
-ghost use Rattle.entry.specs.Pair.{record_length, pair_length, nothing};
-ghost use Rattle.entry.specs.Entry.{Proposed, Confirmed};
+ghost use Rattle.entry.specs.Pair.{record_length, pair_length, nothing, pair_at};
+ghost use Rattle.entry.specs.Entry.{Proposed, Confirmed, propose_answer, confirm_answer};
 ghost use Rattle.lent.specs.Lent.{over};
 
-use answers::Answer;
-use lent::Agreement;
+use answers::{Answer, Refusal};
 
 pub const RECORD_LENGTH: usize = 32;
 
@@ -20,8 +19,17 @@ fn clear(state: &mut [u8], at: usize)
     requires { at + pair_length ≤ length state.old }
     ensures { state.new ≡ over state.old (at + record_length) nothing }
 {
-    let zeros = [0u8; RECORD_LENGTH];
-    lent::put(state, at + RECORD_LENGTH, &zeros);
+    lent::put(state, at + RECORD_LENGTH, &[0; RECORD_LENGTH]);
+}
+
+// An entry judged by its length, and then by the verdict on it.
+fn judged(entry: &[u8], verdict: Answer) -> Answer
+    ensures { result ≡ propose_answer verdict entry.now }
+{
+    if entry.len() != RECORD_LENGTH {
+        return Err(Refusal::OtherEntryLength);
+    }
+    verdict
 }
 
 // An entry proposed for the pair at an offset. The verdict on it is done where it is a good record, else its refusal.
@@ -29,42 +37,39 @@ pub fn propose(state: &mut [u8], at: usize, entry: &[u8], verdict: Answer) -> An
     requires { at + pair_length ≤ length state.old }
     ensures { Proposed verdict at state.old entry.now result state.new }
 {
-    if entry.len() != RECORD_LENGTH {
-        clear(state, at);
-        return Answer::OtherEntryLength;
-    }
-    if answers::is_done(verdict) {
+    let answer = judged(entry, verdict);
+    if answer.is_ok() {
         lent::put(state, at + RECORD_LENGTH, entry);
     } else {
         clear(state, at);
     }
-    verdict
+    answer
 }
 
-// An entry that is to confirm the pending record. `standing` is done where that record is a good one, else the refusal to give.
+// Whether an entry confirms the pending record of the pair at an offset. `standing` is done where that record is a good one, else the
+// refusal to give.
+fn confirms(state: &[u8], at: usize, entry: &[u8], standing: Answer) -> Answer
+    requires { at + pair_length ≤ length state.now }
+    ensures { result ≡ confirm_answer standing (pair_at at state.now) entry.now }
+{
+    judged(entry, standing)?;
+    let from = at + RECORD_LENGTH;
+    let to = at + PAIR_LENGTH;
+    match lent::first_difference(&state[from..to], entry) {
+        Some(k) => Err(Refusal::Differs(k as u8)),
+        None => Ok(()),
+    }
+}
+
+// An entry that is to confirm the pending record: the same bytes come into force, and nothing is pending whatever it is.
 pub fn confirm(state: &mut [u8], at: usize, entry: &[u8], standing: Answer) -> Answer
     requires { at + pair_length ≤ length state.old }
     ensures { Confirmed standing at state.old entry.now result state.new }
 {
-    if entry.len() != RECORD_LENGTH {
-        clear(state, at);
-        return Answer::OtherEntryLength;
+    let answer = confirms(state, at, entry, standing);
+    if answer.is_ok() {
+        lent::put(state, at, entry);
     }
-    if !answers::is_done(standing) {
-        clear(state, at);
-        return standing;
-    }
-    let from = at + RECORD_LENGTH;
-    let to = at + PAIR_LENGTH;
-    match lent::first_difference(&state[from..to], entry) {
-        Agreement::Differ(k) => {
-            clear(state, at);
-            Answer::Differs(k as u8)
-        }
-        Agreement::Same => {
-            lent::put(state, at, entry);
-            clear(state, at);
-            Answer::Done
-        }
-    }
+    clear(state, at);
+    answer
 }

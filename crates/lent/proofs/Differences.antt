@@ -1,33 +1,18 @@
 -- What a comparison's finding means: a difference lies inside and is the first; no difference is equality.
-use Prim.Native.Nat.{ℕ, zero, suc, ◌+◌, ◌-◌, ◌<◌, ◌≤◌}
-use mathlib.Core.Path.{◌≡◌, refl, sym, ap, ap₂, ◌∙◌}
+use Prim.Native.Nat.{ℕ, zero, suc, ◌+◌, ◌-◌, ◌≤◌}
+use mathlib.Core.Path.{◌≡◌, refl, ap, ap₂, ◌∙◌}
 use mathlib.Core.List.{List, [], ◌∷◌}
-use mathlib.Core.Bool.{Bool, true, false, cond}
+use mathlib.Core.Bool.{Bool, true, false, cond, not}
 use native.Mathlib.Nat.{sub-zero}
 use native.Mathlib.Omega.{arith}
 use borrow.Author.Tests.{eq-eqb, ne_eqb, eqb-true, eqb-false}
 use lib.ListN.{length, take}
-use lib.Seq.{take-length}
 use lib.Dec.{eqb}
 use Rattle.lent.specs.Lent.{differ_from, first_difference, FirstAt}
-use Rattle.std.specs.Prelude.{Option, Some, None, IfSome, MatchOption}
-use Rattle.std.specs.List.{AllWithin, HoldsAt, zip}
-use Rattle.std.proofs.lemmas.Slice.Zip.{length-zip, get_or-zip}
-
-differ_below : (j n : ℕ) (xs ys : List ℕ) → j + length xs ≤ n → IfSome (differ_from j xs ys) (λ k. k < n)
-unfolding differ_from
-differ_below j n [] ys h = tt
-differ_below j n (x ∷ xs) [] h = tt
-differ_below j n (x ∷ xs) (y ∷ ys) h = by_test (eqb x y) (differ_below (suc j) n xs ys (omega arith))
-  where
-    by_test : (b : Bool) → IfSome (differ_from (suc j) xs ys) (λ k. k < n) → IfSome (cond b (differ_from (suc j) xs ys) (Some j)) (λ k. k < n)
-    by_test true d = d
-    by_test false d = omega arith
-
--- a difference's place is inside
-pub difference_below : (n : ℕ) (xs ys : List ℕ) → length xs ≤ n → IfSome (first_difference xs ys) (λ k. k < n)
-unfolding first_difference
-difference_below n xs ys h = differ_below 0 n xs ys (omega arith)
+use Rattle.std.specs.Prelude.{Option, Some, None, ◌==◌}
+use Rattle.std.specs.List.{zip, position, position_from}
+use Rattle.std.proofs.lemmas.Iterator.Adapters.{position_from-zero}
+use native.Mathlib.Numerals.{add-one}
 
 first_from : (j k : ℕ) (xs ys : List ℕ) → differ_from j xs ys ≡ Some k → (j ≤ k) × FirstAt xs ys (k - j)
 unfolding differ_from
@@ -94,32 +79,23 @@ pub difference_self : (xs : List ℕ) → first_difference xs xs ≡ None
 unfolding first_difference
 difference_self xs = same_self 0 xs
 
--- Of two numbers, one from each list: that they are the same, and that they are not.
-abbrev pub Equal : ℕ × ℕ → Type 0
-Equal p = p.0 ≡ p.1
+-- that two numbers, one from each list, are not the same
+abbrev pub differ : ℕ × ℕ → Bool
+differ p = not (p.0 == p.1)
 
-abbrev pub Unequal : ℕ × ℕ → Type 0
-Unequal p = p.0 ≡ p.1 → ⊥
+found_from : (k : ℕ) (xs ys : List ℕ) → position_from differ k (zip xs ys) ≡ differ_from k xs ys
+unfolding differ_from
+found_from k [] ys = refl
+found_from k (x ∷ xs) [] = refl
+found_from k (x ∷ xs) (y ∷ ys) = by_test (eqb x y) (rw (add-one k) (found_from (suc k) xs ys))
+  where
+    by_test :
+        (b : Bool) → position_from differ (k + 1) (zip xs ys) ≡ differ_from (suc k) xs ys →
+        cond (not b) (Some k) (position_from differ (k + 1) (zip xs ys)) ≡ cond b (differ_from (suc k) xs ys) (Some k)
+    by_test true rest = rest
+    by_test false rest = refl
 
-fronts_agree : (xs ys : List ℕ) (n : ℕ) → length xs ≡ length ys → n ≤ length xs → AllWithin Equal (zip xs ys) 0 n → take n xs ≡ take n ys
-fronts_agree xs ys zero l h a = refl
-fronts_agree [] ys (suc n) l h a = absurd (omega arith)
-fronts_agree (x ∷ xs) [] (suc n) l h a = absurd (omega arith)
-fronts_agree (x ∷ xs) (y ∷ ys) (suc n) l h a =
-    ap₂ ◌∷◌ (a 0 (0, 0) (omega arith) (omega arith)) (fronts_agree xs ys n (omega arith) (omega arith) (λ k d z b. a (suc k) d (omega arith) (omega arith)))
-
--- the first pair of different numbers stands where the two lists first differ
-pub difference_found :
-    (xs ys : List ℕ) (r : Option ℕ) → length xs ≡ length ys →
-    MatchOption r (AllWithin Equal (zip xs ys) 0 (length (zip xs ys))) (λ i. (i < length (zip xs ys)) × HoldsAt Unequal (zip xs ys) i × AllWithin Equal (zip xs ys) 0 i) →
-    r ≡ first_difference xs ys
-difference_found xs ys None l all =
-    let n : length (zip xs ys) ≡ length xs = omega (arith, length-zip xs ys) in
-    let agree : take (length xs) xs ≡ take (length xs) ys = fronts_agree xs ys (length xs) l (omega arith) (rw n at all) in
-    let same : xs ≡ ys = sym (take-length xs) ∙ agree ∙ rw l (take-length ys) in
-    sym (rw same (difference_self ys))
-difference_found xs ys (Some i) l found =
-    let n : length (zip xs ys) ≡ length xs = omega (arith, length-zip xs ys) in
-    let i_in : i < length xs = omega (arith, found.0) in
-    let there = rw (get_or-zip xs ys i (0, 0) i_in (omega arith)) at (found.1 (0, 0)) in
-    sym (first_difference_lem i xs ys l (record { before = fronts_agree xs ys i l (omega arith) found.2; there = there }))
+-- the first pair of different numbers stands where the lists first differ
+pub difference_found : (xs ys : List ℕ) {r : Option ℕ} → r ≡ position differ (zip xs ys) → r ≡ first_difference xs ys
+unfolding first_difference
+difference_found xs ys e = e ∙ position_from-zero differ (zip xs ys) ∙ found_from 0 xs ys

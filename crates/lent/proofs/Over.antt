@@ -1,13 +1,13 @@
 -- Laws of what is written over a list: what stands before it, from it on and behind it, a second part right behind the first, what stood there
 -- already, the part read again, single bytes; nothing written, and two bytes.
 use Prim.Native.Nat.{ℕ, ◌+◌, ◌<◌, ◌≤◌}
-use mathlib.Core.Path.{◌≡◌, sym, ◌∙◌, ap}
+use mathlib.Core.Path.{◌≡◌, sym, ◌∙◌, ap, ap₂}
 use mathlib.Core.List.{List, [], ◌∷◌, ◌++◌, append_assoc}
 use native.Mathlib.Nat.{add_assoc}
 use native.Mathlib.Omega.{arith}
 use native.Mathlib.Numerals.{add-one}
 use lib.ListN.{length, take, drop, set, get_or, get_or-append, length-append, length-drop, take-append-drop}
-use lib.Seq.{sets-eq, paste-zero, get_or-take, get_or-append-add, length-take-le, take_at, drop_at, drop-drop, take-take, take-add, take-append_seam, drop-append-add}
+use lib.Seq.{sets-eq, paste, paste-zero, paste-suc, get_or-take, get_or-append-add, length-take-le, take_at, drop_at, drop-drop, take-take, take-add, take-append_seam, drop-append-add}
 use Rattle.lent.specs.Lent.{over}
 
 module _ {A : Type 0} (d : List A) (at : ℕ) (x : List A) (room : at ≤ length d) where
@@ -79,3 +79,14 @@ take_drop n m l h = rw (take-add n m l) (sym (drop_at (take n l) (take m (drop n
 pub part_front : (x : List ℕ) (a m n : ℕ) → a + m ≤ n → n ≤ length x → take m (drop a (take n x)) ≡ take m (drop a x)
 part_front x a m n l h =
     take_drop a m (take n x) (simp (length-take-le n x h) (omega arith)) ∙ ap (drop a) (take-take (a + m) n x l) ∙ sym (take_drop a m x (omega arith))
+
+-- the first items of a part written there, and one item more
+over_first : {A : Type 0} (d s : List A) (at j : ℕ) → j ≤ length s → over d at (take j s) ≡ paste d at s j
+over_first d s at j h = ap (λ (n : ℕ). take at d ++ take j s ++ drop (at + n) d) (length-take-le j s h)
+
+pub over_more :
+    {A : Type 0} (d s : List A) (at j : ℕ) (x : A) → at + length s ≤ length d → j < length s → x ≡ get_or s j x →
+    set (over d at (take j s)) (at + j) x ≡ over d at (take (j + 1) s)
+over_more d s at j x room more there =
+    ap₂ (λ t y. set t (at + j) y) (over_first d s at j (omega arith)) there ∙ paste-suc d at s j x (omega arith) more ∙ ap (paste d at s) (sym (add-one j))
+    ∙ sym (over_first d s at (j + 1) (omega arith))

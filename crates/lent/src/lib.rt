@@ -1,21 +1,26 @@
 // Work on lent bytes: what every write and every comparison goes through.
 #![tactic(auto)]
 
-ghost use Rattle.std.specs.Prelude.{◌≡◌, ◌+◌, ◌≤◌, length};
+ghost use Rattle.std.specs.Prelude.{◌≡◌, ◌+◌, ◌<◌, ◌≤◌, length, IfSome};
 ghost use Rattle.lent.specs.Lent.{over, first_difference};
 
-// Writes src over dst, from `at` on; what stands before and after stays.
+// Writes src over dst, from `at` on; what stands before and after stays. No `copy_from_slice`: it calls memmove where the length is no
+// constant, and the archive is to need memcpy and memset alone (include/gorsepetal.h).
+#[tactic(auto, using(crate::proofs::Over::over_more))]
 pub fn put<T: Copy>(dst: &mut [T], at: usize, src: &[T])
     requires { at + length src.now ≤ length dst.old }
     ensures { dst.new ≡ over dst.old at src.now }
 {
-    dst[at..at + src.len()].copy_from_slice(src);
+    for (j, &x) in src.iter().enumerate() {
+        dst[at + j] = x;
+    }
 }
 
 // The first place at which two slices of one length differ.
 pub fn first_difference(a: &[u8], b: &[u8]) -> Option<usize>
     requires { length a.now ≡ length b.now }
-    ensures { result ≡ first_difference a.now b.now }
+    ensures first { result ≡ first_difference a.now b.now }
+    ensures inside { IfSome result (λ k. k < length a.now) }
 {
     a.iter().zip(b).position(|(x, y)| x != y)
 }

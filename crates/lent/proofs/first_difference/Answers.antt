@@ -1,24 +1,18 @@
--- `lent::first_difference`: the first pair whose two bytes differ stands where the slices first differ.
+-- `lent::first_difference`: the first pair of different bytes stands where the slices first differ.
 use Rattle.std.proofs.Common.{rules}
-use Rattle.std.proofs.lemmas.Iterator.{IsFirst-from_position, YieldsList-from_zip, YieldsList-from_slice}
+use Rattle.std.proofs.lemmas.Iterator.{YieldsList-from_zip, YieldsList-from_slice}
+use Rattle.std.proofs.lemmas.Iterator.Search.{position_from_yields_List}
 use borrow.Author.Tests.{tests}
-use Rattle.lent.proofs.Differences.{Equal, Unequal, difference_found}
+use Rattle.lent.proofs.Differences.{differ, difference_found}
 use Rattle.lent.proofs.first_difference.Goals as goal
 
-pub returns : goal.returns
-returns c =
-    difference_found
-    c.args.a.now
-    c.args.b.now
-    c.position.result
-    c.requires
-    (IsFirst-from_position
+pub returns-clause-first : goal.returns-clause-first
+returns-clause-first c =
+    difference_found c.args.a.now c.args.b.now (position_from_yields_List
+    differ
     c.position.new.self
     _
     c.position.result
-    Unequal
-    Equal
     c.position.ensures.ran
-    (YieldsList-from_zip (YieldsList-from_slice c.args.a.now cc) (YieldsList-from_slice c.args.b.now cc))
-    (λ x q k. search (rules, tests))
-    (λ x q k. search (rules, tests)))
+    (YieldsList-from_zip (YieldsList-from_slice c.args.a.now (search rules)) (YieldsList-from_slice c.args.b.now (search rules)))
+    (λ x b q k. search (rules, tests)))
