@@ -1,6 +1,7 @@
--- What end and read answer, on plain lists.
-use Prim.Native.Nat.{ℕ, ◌-◌, ◌<◌, min}
-use mathlib.Core.Path.{◌≡◌, ap, ◌∙◌}
+-- What open, end and read are proved by, on plain lists.
+use Prim.Native.Nat.{ℕ, ◌-◌, ◌<◌, ◌^◌, min}
+use mathlib.Core.Path.{◌≡◌, sym, ap, ◌∙◌}
+use mathlib.Core.Bool.{Bool, true}
 use mathlib.Core.List.{List}
 use native.Mathlib.Omega.{arith}
 use borrow.Author.Tests.{ne_eqb}
@@ -10,10 +11,15 @@ use Rattle.std.proofs.lemmas.List.{take_min}
 use Rattle.std.specs.Array.{IsWholeChunk}
 use Rattle.answers.specs.declared.Refusal.{Refusal}
 use Rattle.answers.specs.declared.Refusal.TheVariants.{InsideRecord}
-use Rattle.records.specs.Record.{record_length}
+use Rattle.records.specs.Record.{good_file, record_length}
+use Rattle.records.proofs.Writing.{good_file_lem}
 use Rattle.events.specs.declared.Step.{Step}
 use Rattle.events.specs.Slice.{reader_length, held_in, shape_in, hand_in, HoldsReading, AtEnd, TookIn, Read}
 use Rattle.events.proofs.Standing.{held_is, hand_length, end_inside}
+
+-- the status channels of a good file
+pub small_status : (ends status : ℕ) {b : Bool} → b ≡ good_file ends status → b ≡ true → status < 2 ^ 8
+small_status ends status e t = omega (arith, (good_file_lem ends status (sym e ∙ t)).2)
 
 module _ {ends long index held : ℕ} where
   -- inside a record
