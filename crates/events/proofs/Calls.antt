@@ -1,31 +1,37 @@
--- What end and read answer, on plain lists.
-use Prim.Native.Nat.{ℕ, ◌-◌, min}
-use mathlib.Core.Path.{◌≡◌, ap, ◌∙◌}
+-- What open, end and read are proved by, on plain lists.
+use Prim.Native.Nat.{ℕ, ◌-◌, ◌<◌, ◌^◌, min}
+use mathlib.Core.Path.{◌≡◌, sym, ap, ◌∙◌}
+use mathlib.Core.Bool.{Bool, true}
 use mathlib.Core.List.{List}
 use native.Mathlib.Omega.{arith}
-use borrow.Author.Tests.{eq-eqb, ne_eqb}
+use borrow.Author.Tests.{ne_eqb}
 use lib.ListN.{length, take, set}
 use Rattle.std.specs.Prelude.{Result, Err}
 use Rattle.std.proofs.lemmas.List.{take_min}
 use Rattle.std.specs.Array.{IsWholeChunk}
 use Rattle.answers.specs.declared.Refusal.{Refusal}
 use Rattle.answers.specs.declared.Refusal.TheVariants.{InsideRecord}
-use Rattle.records.specs.Record.{record_length}
+use Rattle.records.specs.Record.{good_file, record_length}
+use Rattle.records.proofs.Writing.{good_file_lem}
 use Rattle.events.specs.declared.Step.{Step}
 use Rattle.events.specs.Slice.{reader_length, held_in, shape_in, hand_in, HoldsReading, AtEnd, TookIn, Read}
 use Rattle.events.proofs.Standing.{held_is, hand_length, end_inside}
 
+-- the status channels of a good file
+pub small_status : (ends status : ℕ) {b : Bool} → b ≡ good_file ends status → b ≡ true → status < 2 ^ 8
+small_status ends status e t = omega (arith, (good_file_lem ends status (sym e ∙ t)).2)
+
 module _ {ends long index held : ℕ} where
   -- inside a record
   pub cut_at_end :
-      (s t : List ℕ) → IsWholeChunk s t reader_length → HoldsReading t ends long index held → (held ≡ 0 → ⊥) → AtEnd s (Err (InsideRecord index)) (set t 2 11)
+      (s t : List ℕ) → IsWholeChunk s t reader_length → HoldsReading t ends long index held → 0 < held → AtEnd s (Err (InsideRecord index)) (set t 2 11)
   cut_at_end s t w h n =
-      let y = eq-eqb (length s) reader_length w.long in
-      let e = ne_eqb (held_in t) 0 (λ z. n (h.its_held ∙ z)) in
+      let l = ap length w.same ∙ w.long in
+      let e = ne_eqb (held_in t) 0 (λ z. omega arith) in
       rw (← w.same)
       (record {
-        answer = rw (ap length w.same ∙ w.long, end_inside t (ap length w.same ∙ w.long) h.reading (omega arith)) (ap (λ (i : ℕ). Err (InsideRecord i)) h.its_index);
-        reader = rw (ap length w.same ∙ w.long, h.reading, e);
+        answer = rw (l, end_inside t l h.reading (omega arith)) (ap (λ (i : ℕ). Err (InsideRecord i)) h.its_index);
+        reader = rw (l, h.reading, e);
       })
 
   -- as many bytes are taken as are wanted

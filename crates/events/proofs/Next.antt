@@ -1,10 +1,10 @@
 -- What the calls do to the bytes is what the definitions say of the reader; and a whole record is what the slice shows.
-use Prim.Native.Nat.{ℕ, suc, ◌+◌, ◌*◌, ◌-◌, ◌<◌, ◌≤◌}
+use Prim.Native.Nat.{ℕ, suc, ◌+◌, ◌*◌, ◌<◌, ◌≤◌}
 use mathlib.Core.Path.{◌≡◌, refl, sym, ap, ap₂, ◌∙◌}
-use mathlib.Core.List.{List, [], ◌∷◌, ◌++◌}
-use mathlib.Core.Bool.{Bool, true, false, false≢true, cond}
+use mathlib.Core.List.{List, [], ◌++◌}
+use mathlib.Core.Bool.{Bool, true, false, cond}
 use native.Mathlib.Omega.{arith}
-use borrow.Author.Tests.{eq-eqb, ne_eqb, le-leb, lt-ltb, leb-true, leb-false, eqb-true}
+use borrow.Author.Tests.{ne_eqb, le-leb, lt-ltb, leb-true, leb-false, eqb-true, eqb-false}
 use lib.Dec.{eqb, leb}
 use lib.ListN.{length, take, drop, set, get_or, length-set, length-take, length-drop}
 use lib.Seq.{get_or-set_same, get_or-set_other, drop-set-lt, length-take-le}
@@ -13,10 +13,10 @@ use Rattle.lent.proofs.Over.{over_length, over_read, byte_before, byte_in}
 use Rattle.samples.specs.Window.{channels}
 use Rattle.records.specs.Record.{Shape, word_at, good_file, narrow, record_length, number_in, time_in, frame_in}
 use Rattle.records.proofs.Swapped.{swapped_length}
-use Rattle.files.specs.Reader.{OtherNumber, InsideRecord, Ended, Reading, opened, wanted, Stopped, More, Whole, wrong_number, after, read_outcome, read_next, end_next}
+use Rattle.files.specs.Reader.{OtherNumber, Ended, Reading, opened, wanted, Stopped, More, Whole, wrong_number, after, read_outcome, read_next, end_next}
 use Rattle.files.proofs.Cut.{some_length, right_number}
 use Rattle.events.specs.Slice.{reader_length, hand_at, ends_in, status_in, ended_in, held_in, index_in, shape_in, hand_in, ended_by, is_reading, reader_of, opened_bytes, end_left, front_of, finished, left_by, taken_outcome, taken_left, read_left, time_shown, frame_end}
-use Rattle.events.proofs.Standing.{holds, held_is, ended_is, hand_length}
+use Rattle.events.proofs.Standing.{holds, held_is, ended_is, wanted_is, end_between, end_inside}
 use Rattle.events.proofs.TakeIn.{take_fits, t_length, g_length, in_hand_lem}
 
 -- ---- what bytes are which reader
@@ -54,19 +54,13 @@ opened_reads ends status = by_test (good_file ends status) refl
 pub end_reads : (s : List ℕ) → length s ≡ reader_length → reader_of (end_left s) ≡ end_next (reader_of s)
 end_reads s l = by_test (is_reading s) refl (eqb (held_in s) 0) refl
   where
-    none : (h : List ℕ) → length h ≡ 0 → end_next (Reading (shape_in s) (index_in s) h) ≡ Reading (shape_in s) (index_in s) h
-    none [] n = refl
-    none (x ∷ h) n = absurd (omega arith)
-
-    some : (h : List ℕ) → (length h ≡ 0 → ⊥) → end_next (Reading (shape_in s) (index_in s) h) ≡ Ended (InsideRecord (index_in s))
-    some [] n = absurd (n refl)
-    some (x ∷ h) n = refl
-
     by_test : (b : Bool) → is_reading s ≡ b → (c : Bool) → eqb (held_in s) 0 ≡ c → reader_of (end_left s) ≡ end_next (reader_of s)
-    by_test true t true u = rw (t, u, held_is s t) (sym (none (hand_in s) (hand_length s l t ∙ eqb-true (held_in s) 0 u)))
+    by_test true t true u =
+        let z = eqb-true (held_in s) 0 u in
+        rw (t, u, end_between s t z) (held_is s t ∙ ap (λ (n : ℕ). Reading (shape_in s) (index_in s) (take n (drop hand_at s))) z)
     by_test true t false u =
-        rw (t, u, held_is s t)
-        (now_ended s 11 l (λ e. omega arith) ∙ sym (some (hand_in s) (λ e. false≢true (sym u ∙ eq-eqb (held_in s) 0 (sym (hand_length s l t) ∙ e)))))
+        let some : 0 < held_in s = omega (arith, eqb-false (held_in s) 0 u) in
+        rw (t, u, end_inside s l t some) (now_ended s 11 l (λ e. omega arith))
     by_test false t c u = rw (t, ended_is s t)
 
 -- ---- read
@@ -163,11 +157,8 @@ module _ (s piece : List ℕ) (l : length s ≡ reader_length) (y : is_reading s
 
 -- a call takes as many bytes as are wanted
 module _ (s piece : List ℕ) (l : length s ≡ reader_length) (y : is_reading s ≡ true) where
-  pub wanted_is : wanted (reader_of s) ≡ record_length (shape_in s) - held_in s
-  wanted_is = rw (held_is s y, hand_length s l y)
-
   pub taken_room : held_in s + length (take (wanted (reader_of s)) piece) ≤ record_length (shape_in s)
-  taken_room = let k = (holds s y).short in simp length-take (omega (arith, wanted_is, k))
+  taken_room = let k = (holds s y).short in simp length-take (omega (arith, wanted_is s l y, k))
 
   pub outcome_is : read_outcome (reader_of s) piece ≡ taken_outcome s (take (wanted (reader_of s)) piece)
   outcome_is = rw (held_is s y)
@@ -201,9 +192,9 @@ pub record Shows (s piece : List ℕ) (sh : Shape) (g : List ℕ) : Type 0 where
 whole_of :
     (a b : Bool) (i : ℕ) (sh₀ : Shape) (g₀ : List ℕ) (sh : Shape) (g : List ℕ) → cond a (Stopped (OtherNumber i)) (cond b (Whole sh₀ g₀) More) ≡ Whole sh g →
     (a ≡ false) × (b ≡ true) × (sh ≡ sh₀) × (g₀ ≡ g)
-whole_of true b i sh₀ g₀ sh g e = let z : ◌≡◌ {A = ℕ} 0 1 = cc in absurd (omega arith)
+whole_of true b i sh₀ g₀ sh g e = cc
 whole_of false true i sh₀ g₀ sh g e = (refl, refl, cc, cc)
-whole_of false false i sh₀ g₀ sh g e = let z : ◌≡◌ {A = ℕ} 0 1 = cc in absurd (omega arith)
+whole_of false false i sh₀ g₀ sh g e = cc
 
 pub read_shows : (s piece : List ℕ) (sh : Shape) (g : List ℕ) → length s ≡ reader_length → read_outcome (reader_of s) piece ≡ Whole sh g → Shows s piece sh g
 read_shows s piece sh g l o = by_test (is_reading s) refl
@@ -229,4 +220,4 @@ read_shows s piece sh g l o = by_test (is_reading s) refl
           long = rw (w.2, ← w.3) (omega (arith, g_length s p l y room, whole, room));
           joined = sym w.3;
         }
-    by_test false y = let stopped = rw (ended_is s y) at o in let z : ◌≡◌ {A = ℕ} 0 1 = cc in absurd (omega arith)
+    by_test false y = let stopped = rw (ended_is s y) at o in absurd cc

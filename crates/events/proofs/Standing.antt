@@ -4,12 +4,10 @@ use mathlib.Core.Path.{◌≡◌, refl}
 use mathlib.Core.List.{List, [], ◌∷◌}
 use mathlib.Core.Bool.{Bool, true, false}
 use native.Mathlib.Omega.{arith}
-use borrow.Author.Tests.{eqb-true, ltb-true}
-use lib.Dec.{eqb, ltb}
+use Rattle.std.proofs.lemmas.Bool.Decides.{nat_tests}
 use lib.ListN.{length, drop, length-drop}
 use lib.Seq.{length-take-le}
 use Rattle.records.specs.Record.{good_file, record_length}
-use Rattle.records.proofs.Writing.{both, good_file_lem}
 use Rattle.files.specs.Reader.{wanted, end_next, InsideRecord, Ended, Reading, Fits}
 use Rattle.events.specs.Slice.{reader_length, hand_at, ended_by, ends_in, status_in, ended_in, held_in, index_in, shape_in, hand_in, is_reading, reader_of}
 
@@ -25,18 +23,7 @@ pub record Held (s : List ℕ) : Type 0 where
 
 pub holds : (s : List ℕ) → is_reading s ≡ true → Held s
 unfolding is_reading
-holds s t =
-    let x = both (eqb (ended_in s) 0) _ t in
-    let y = both (good_file (ends_in s) (status_in s)) (ltb (held_in s) (record_length (shape_in s))) x.1 in
-    let g = good_file_lem (ends_in s) (status_in s) y.0 in
-    record {
-      ended = eqb-true (ended_in s) 0 x.0;
-      good = y.0;
-      most = g.1;
-      status = g.2;
-      short = ltb-true (held_in s) (record_length (shape_in s)) y.1;
-      small = omega (arith, g.1, g.2);
-    }
+holds s t = grind (arith, nat_tests)
 
 pub held_is : (s : List ℕ) → is_reading s ≡ true → reader_of s ≡ Reading (shape_in s) (index_in s) (hand_in s)
 unfolding reader_of

@@ -17,7 +17,7 @@ use Rattle.files.specs.Reader.{wrong_number}
 use Rattle.std.specs.Prelude.{Result}
 use Rattle.answers.specs.declared.Refusal.{Refusal}
 use Rattle.events.specs.declared.Step.{Step}
-use Rattle.events.specs.Slice.{HoldsReading, reader_length, ends_in, status_in, held_in, index_in, shape_in, hand_in, is_reading, wrong_in, front_of, Settled, TookIn}
+use Rattle.events.specs.Slice.{HoldsReading, reader_length, ends_in, held_in, index_in, shape_in, hand_in, is_reading, wrong_in, front_of, Settled, TookIn}
 use Rattle.events.proofs.Standing.{holds, hand_length}
 
 -- bytes where they lie
@@ -43,20 +43,11 @@ module _ (s piece : List ℕ) (l : length s ≡ reader_length) (y : is_reading s
   abbrev pub g : List ℕ
   g = hand_in s ++ piece
 
-  pub take_ends : {ends : ℕ} → ends ≡ ends_in s → ends ≤ 6
-  take_ends d = let h = holds s y in omega arith
-
-  pub take_status : {status : ℕ} → status ≡ status_in s → status ≤ 96
-  take_status d = let h = holds s y in omega arith
-
   pub take_fits : 56 + held_in s + length piece ≤ 118
   take_fits = omega (arith, (holds s y).small)
 
   pub t_length : length t ≡ reader_length
   t_length = over_length s (56 + held_in s) piece (omega (arith, take_fits)) ∙ l
-
-  pub mid_length : {held : ℕ} {mid : List ℕ} → held ≡ held_in s → mid ≡ over s (56 + held) piece → length mid ≡ reader_length
-  mid_length h k = ap length (k ∙ ap (λ (n : ℕ). over s (56 + n) piece) h) ∙ t_length
 
   pub g_length : length g ≡ held_in s + length piece
   g_length = length-append (hand_in s) piece ∙ ap (λ (n : ℕ). n + length piece) (hand_length s l y)

@@ -27,10 +27,11 @@ const INDEX: usize = 4;
 
 const HAND: usize = 56;
 
-// What stands in ENDED where the reading has ended inside a record, or by a wrong number: the number of the refusal.
-const INSIDE: u8 = 11;
+// What stands in ENDED where the reading has ended inside a record, or by a wrong number: the number of the refusal. It is a byte of the
+// slice that C keeps, which one match reads, so an enum for it would be no plainer.
+const INSIDE: u8 = answers::INSIDE_RECORD as u8;
 
-const OTHER: u8 = 12;
+const OTHER: u8 = answers::OTHER_NUMBER as u8;
 
 // What a call of read comes to: the bytes are taken; or a record is whole, and its frame is to be fed.
 #[derive(Clone, Copy)]

@@ -1,4 +1,4 @@
--- What belongs to no one function: bytes exchanged, each way out of the writer, and records made and taken apart.
+-- What belongs to no one function: bytes exchanged, what good ends and a good file are, and records made and taken apart.
 pub mod Swapped
 pub mod Writing
 pub mod Made
