@@ -7,7 +7,7 @@ use native.Mathlib.Omega.{arith}
 use borrow.Author.Tests.{eq-eqb, ne_eqb, le-leb, lt-leb}
 use lib.Dec.{leb}
 use lib.IntN.{ℤ}
-use lib.ListN.{length, take, drop}
+use lib.ListN.{length-take, length, take, drop}
 use lib.Seq.{take-take, length-take-le}
 use Rattle.std.specs.Prelude.{Err}
 use Rattle.answers.specs.Answers.{Answer}
@@ -29,23 +29,24 @@ use Rattle.feed.specs.Feed.{numbers_of_frame, record_of, with_frame, newest_fram
 
 -- ---- 9, 3, or the frame is kept
 
-module _ {at : ℕ} {s f out : List ℕ} {m : ℕ} (many : m ≡ numbers_of_frame (record_of s)) where
+-- m is how many numbers the code has counted by the record r
+module _ {at : ℕ} {s f out r : List ℕ} {m : ℕ} (many : m ≡ numbers_of_frame r) (its : r ≡ record_of s) where
   pub feed_9 : {s₁ out₁ : List ℕ} {a : Answer} → (length f ≡ 2 * m → ⊥) → a ≡ Err OtherFrameLength → s₁ ≡ s → out₁ ≡ out → Fed at s f out a s₁ out₁
   feed_9 l e es eo =
-      let no = ne_eqb (length f) (2 * numbers_of_frame (record_of s)) (rw many at l) in
+      let no = ne_eqb (length f) (2 * numbers_of_frame (record_of s)) (rw (many, its) at l) in
       record { answer = rw no e; state = rw no es; buffer = rw no eo }
 
   module _ (l : length f ≡ 2 * m) where
     pub feed_3 : {s₁ out₁ : List ℕ} {a : Answer} → length out < 32 → a ≡ Err NoRoom → s₁ ≡ s → out₁ ≡ out → Fed at s f out a s₁ out₁
-    feed_3 r e es eo =
-        let fits = eq-eqb (length f) (2 * numbers_of_frame (record_of s)) (rw many at l) in
-        let no = lt-leb 32 (length out) r in
+    feed_3 less e es eo =
+        let fits = eq-eqb (length f) (2 * numbers_of_frame (record_of s)) (rw (many, its) at l) in
+        let no = lt-leb 32 (length out) less in
         record { answer = rw (fits, no) e; state = rw (fits, no) es; buffer = rw (fits, no) eo }
 
     pub feed_on : {s₁ out₁ : List ℕ} {a : Answer} → 32 ≤ length out → KeptFrame at s f out a s₁ out₁ → Fed at s f out a s₁ out₁
-    feed_on r k =
-        let fits = eq-eqb (length f) (2 * numbers_of_frame (record_of s)) (rw many at l) in
-        let room = le-leb 32 (length out) r in
+    feed_on enough k =
+        let fits = eq-eqb (length f) (2 * numbers_of_frame (record_of s)) (rw (many, its) at l) in
+        let room = le-leb 32 (length out) enough in
         record {
           answer = rw (fits, room) k.answer;
           state = rw (fits, room) k.state;
@@ -65,8 +66,10 @@ record_stays : (s x : List ℕ) (at : ℕ) → record_length ≤ at → at ≤ l
 record_stays s x at far room = sym (take-take record_length at (over s at x) far) ∙ ap (take record_length) (over_before s at x room) ∙ take-take record_length at s far
 
 -- and so its ranges, and its 32 bytes
-pub record_holds : (at : ℕ) (s : List ℕ) (m : ℕ) (x : List ℤ) (s₁ : List ℕ) → record_length ≤ at → at + stored_length ≤ length s → s₁ ≡ kept frames m at s x → Ranges (record_of s) → Ranges (record_of s₁) × (length (record_of s₁) ≡ record_length)
-record_holds at s m x s₁ far room put g = rw (put, record_stays s _ at far (omega arith)) (g, length-take-le record_length s (omega arith))
+pub record_holds : (at : ℕ) (s : List ℕ) (m : ℕ) (x : List ℤ) (s₁ : List ℕ) → record_length ≤ at → at + stored_length ≤ length s → s₁ ≡ kept frames m at s x → Ranges (record_of s) → Ranges (record_of s₁) × (length (record_of s₁) ≡ record_length) × (record_length ≤ length s₁)
+record_holds at s m x s₁ far room put g =
+    let thirty_two : length (record_of s₁) ≡ record_length = rw (put, record_stays s _ at far (omega arith)) (length-take-le record_length s (omega arith)) in
+    (rw (put, record_stays s _ at far (omega arith)) g, thirty_two, omega (arith, thirty_two, length-take record_length s₁))
 
 module _
     (at : ℕ) (s f : List ℕ) (m : ℕ) (w : Window) (s₁ : List ℕ)
