@@ -2,38 +2,29 @@
 use Prim.Native.Nat.{ℕ, ◌*◌, ◌-◌}
 use mathlib.Core.Path.{◌≡◌, refl, sym, ap, ◌∙◌}
 use mathlib.Core.List.{List, [], ◌∷◌, ◌++◌}
-use mathlib.Core.Bool.{Bool, true, false}
+use mathlib.Core.Bool.{Bool, true, false, ◌&&◌}
 use native.Mathlib.Omega.{arith}
 use borrow.Author.Tests.{eq-eqb, ne_eqb, eqb-true}
 use lib.ListN.{length, take, drop}
-use Rattle.answers.specs.Answers.{Answer, given_back}
+use Rattle.std.specs.Prelude.{Result, Ok, Err}
+use Rattle.std.specs.Array.{IsWholeChunk}
+use Rattle.answers.specs.declared.Refusal.{Refusal}
+use Rattle.answers.specs.declared.Refusal.TheVariants.{NoRelay}
+use Rattle.answers.specs.Answers.{Answer}
 use Rattle.lent.specs.Bytes.{Every, Byte}
 use Rattle.lent.proofs.Every.{every_append, every_take, every_drop}
 use Rattle.samples.specs.Window.{channels}
 use Rattle.records.specs.Record.{Shape, frame_in}
-use Rattle.records.specs.Writer.{Wrote}
 use Rattle.records.proofs.Swapped.{swapped_bytes}
 use Rattle.records.proofs.Writing.{both}
 use Rattle.files.specs.Reader.{Ending, refusal_of, wanted, Outcome, Stopped, More, Whole}
-use Rattle.events.specs.Slice.{reader_length, hand_at, held_in, hand_in, is_reader, reader_of, told, Opened, AtEnd, Read, read_left, frame_end}
+use Rattle.events.specs.Slice.{reader_length, hand_at, held_in, hand_in, is_reader, reader_of, told, Read, read_left, frame_end}
 use Rattle.events.specs.declared.Step.{Step}
 use Rattle.events.specs.declared.Step.TheVariants as step
 use Rattle.events.proofs.Next.{read_shows}
 use Rattle.gorsepetal.specs.State.{state_length}
-use Rattle.gorsepetal.specs.Calls.{is_relay, feed_answer, feed_state, feed_out, Fed}
-use Rattle.gorsepetal.specs.EventFiles.{both_lent, piece_outcome, handed, read_answer, read_state, read_out, EventsOpened, EventsRead, EventsEnded, EventsWritten}
-
--- ---- a call that hands on to one below, and gives its answer back
-
-module _ {n : ℕ} {a : Answer} (g : n ≡ given_back a) where
-  pub open_on : {ends status : ℕ} {r r₁ : List ℕ} → Opened ends status r a r₁ → EventsOpened r ends status n r₁
-  open_on p = record { given = g ∙ ap given_back p.answer; reader = p.reader }
-
-  pub end_on : {r r₁ : List ℕ} → AtEnd r a r₁ → EventsEnded r n r₁
-  end_on p = record { given = g ∙ ap given_back p.answer; reader = p.reader }
-
-  pub write_on : {ends written time : ℕ} {f out out₁ : List ℕ} → Wrote ends written time f out a out₁ → EventsWritten ends written time f out n out₁
-  write_on p = record { given = g ∙ ap given_back p.answer; buffer = p.buffer }
+use Rattle.gorsepetal.specs.Calls.{is_relay, feed_answer, feed_state, feed_out}
+use Rattle.gorsepetal.specs.EventFiles.{held_frame, both_lent, piece_outcome, handed, read_answer, read_state, read_reader, read_out}
 
 -- ---- what a step tells of the outcome
 
@@ -109,34 +100,63 @@ shown r p {r₁} {to} sh g m d e t =
     let ends : to - 12 ≡ 2 * channels sh.ends = omega (arith, t, ap frame_end d, k.end) in
     ap (λ (j : ℕ). take j (drop 12 r₁)) ends ∙ ap (λ (q : List ℕ). take (2 * channels sh.ends) (drop 12 q)) d ∙ k.frame
 
-module _ {s r p out s₁ r₁ out₁ : List ℕ} {n : ℕ} where
-  pub read_no_relay : (length s ≡ state_length → ⊥) → n ≡ 17 → s₁ ≡ s → r₁ ≡ r → out₁ ≡ out → EventsRead s r p out n s₁ r₁ out₁
-  read_no_relay l g k j o = let t = ne_eqb (length s) state_length l in record { given = rw t g; state = rw t k; reader = rw t j; buffer = rw t o }
+-- a state or a reader of another length
+module _ (s r p out : List ℕ) where
+  pub no_relay : (length s ≡ state_length → ⊥) → both_lent s r ≡ false
+  no_relay l = rw (ne_eqb (length s) state_length l)
 
-  module _ (l : length s ≡ state_length) where
-    pub read_no_reader : (length r ≡ reader_length → ⊥) → n ≡ 17 → s₁ ≡ s → r₁ ≡ r → out₁ ≡ out → EventsRead s r p out n s₁ r₁ out₁
-    read_no_reader m g k j o =
-        let t = eq-eqb (length s) state_length l in
-        let u = ne_eqb (length r) reader_length m in
-        record { given = rw (t, u) g; state = rw (t, u) k; reader = rw (t, u) j; buffer = rw (t, u) o }
+  pub no_reader : (length r ≡ reader_length → ⊥) → both_lent s r ≡ false
+  no_reader m = by_test (is_relay s)
+    where
+      by_test : (b : Bool) → (b && is_reader r) ≡ false
+      by_test true = ne_eqb (length r) reader_length m
+      by_test false = refl
 
-    module _ (m : length r ≡ reader_length) {a : Result Step Refusal} (d : Read r p a r₁) where
-      pub read_stopped : {b : Refusal} → a ≡ Err b → n ≡ given_back (Err b) → s₁ ≡ s → out₁ ≡ out → EventsRead s r p out n s₁ r₁ out₁
-      read_stopped {b} q g k o =
-          let lent = both_lent_lem s r l m in
-          let e = stopped_by_lem (piece_outcome r p) b (sym q ∙ d.step) in
-          record { given = rw (lent, e.1) (g ∙ ap given_back e.2); state = rw (lent, e.1) k; reader = rw lent d.reader; buffer = rw (lent, e.1) o }
+  module _ (lent : both_lent s r ≡ false) where
+    pub refused_answer : Err NoRelay ≡ read_answer s r p out
+    refused_answer = rw lent
 
-      pub read_taken : a ≡ Ok step.Taken → n ≡ 0 → s₁ ≡ s → out₁ ≡ out → EventsRead s r p out n s₁ r₁ out₁
-      read_taken q g k o =
-          let lent = both_lent_lem s r l m in
-          let e = taken_by (piece_outcome r p) (sym q ∙ d.step) in
-          record { given = rw (lent, e) g; state = rw (lent, e) k; reader = rw lent d.reader; buffer = rw (lent, e) o }
+    pub refused_state : s ≡ read_state s r p out
+    refused_state = rw lent
 
-      pub read_whole : {to : ℕ} → a ≡ Ok step.Whole → to ≡ frame_end r₁ → Fed s (take (to - 12) (drop 12 r₁)) out n s₁ out₁ → EventsRead s r p out n s₁ r₁ out₁
-      read_whole q t f =
-          let w = whole_by (piece_outcome r p) (sym q ∙ d.step) in
-          let lent = both_lent_lem s r l m in
-          let e = shown r p w.0 w.1 m d.reader w.2 t in
-          let c = rw e at f in
-          record { given = rw (lent, w.2) c.given; state = rw (lent, w.2) c.state; reader = rw lent d.reader; buffer = rw (lent, w.2) c.buffer }
+    pub refused_reader : r ≡ read_reader s r p
+    refused_reader = rw lent
+
+    pub refused_out : out ≡ read_out s r p out
+    refused_out = rw lent
+
+-- what a piece comes to: the answer, and what is left
+pub record Reads (s r p out : List ℕ) (a : Answer) (s₁ r₁ out₁ : List ℕ) : Type 0 where
+  pub answer : a ≡ read_answer s r p out
+  pub state : s₁ ≡ read_state s r p out
+  pub reader : r₁ ≡ read_reader s r p
+  pub buffer : out₁ ≡ read_out s r p out
+
+-- x is the reader's slice as an array
+module _ (s r p out x : List ℕ) (l : length s ≡ state_length) (w : IsWholeChunk r x reader_length) (a : Result Step Refusal) (r₁ : List ℕ) (d : Read x p a r₁) where
+  lent : both_lent s r ≡ true
+  lent = both_lent_lem s r l w.long
+
+  of_reader : Read r p a r₁
+  of_reader = rw w.same at d
+
+  pub reader_is : r₁ ≡ read_reader s r p
+  reader_is = rw lent of_reader.reader
+
+  pub stopped : (b : Refusal) → a ≡ Err b → Reads s r p out (Err b) s r₁ out
+  stopped b q =
+      let e = stopped_by_lem (piece_outcome r p) b (sym q ∙ of_reader.step) in
+      record { answer = rw (lent, e.1) (ap (λ (y : Refusal). Err y) e.2); state = rw (lent, e.1); reader = reader_is; buffer = rw (lent, e.1) }
+
+  pub taken : a ≡ Ok step.Taken → Reads s r p out (Ok tt) s r₁ out
+  taken q =
+      let e = taken_by (piece_outcome r p) (sym q ∙ of_reader.step) in
+      record { answer = rw (lent, e); state = rw (lent, e); reader = reader_is; buffer = rw (lent, e) }
+
+  pub fed :
+      {b : Answer} {s₁ out₁ : List ℕ} → a ≡ Ok step.Whole → b ≡ feed_answer s (held_frame r₁) out → s₁ ≡ feed_state s (held_frame r₁) out
+      → out₁ ≡ feed_out s (held_frame r₁) out → Reads s r p out b s₁ r₁ out₁
+  fed q ea es eo =
+      let h = whole_by (piece_outcome r p) (sym q ∙ of_reader.step) in
+      let e = shown r p h.0 h.1 w.long of_reader.reader h.2 refl in
+      record { answer = rw (lent, h.2, ← e) ea; state = rw (lent, h.2, ← e) es; reader = reader_is; buffer = rw (lent, h.2, ← e) eo }

@@ -1,12 +1,12 @@
 -- Document 02, CR 5: what the calls that read and write event files answer and leave, for every input, good or bad. In these definitions s is the
 -- relay's state, r the reader's slice, p the piece that is lent.
-use Rattle.std.specs.Prelude.{ℕ, ◌≡◌, List, [], ◌∷◌, Bool, cond, ◌&&◌, Ok, Err}
+use Rattle.std.specs.Prelude.{ℕ, ◌≡◌, List, [], ◌∷◌, Bool, cond, ◌&&◌, Ok, Err, ◌-◌, take, drop}
 use Rattle.answers.specs.declared.Refusal.TheVariants.{NoRelay}
 use Rattle.answers.specs.Answers.{Answer, given_back}
 use Rattle.records.specs.Record.{narrow, frame_in}
 use Rattle.records.specs.Writer.{write_answer, write_out}
 use Rattle.files.specs.Reader.{answer_of, opened, refusal, Outcome, Stopped, More, Whole, read_outcome, end_answer}
-use Rattle.events.specs.Slice.{is_reader, reader_of, wanted_in, opened_bytes, read_left, end_left}
+use Rattle.events.specs.Slice.{frame_end, is_reader, reader_of, wanted_in, opened_bytes, read_left, end_left}
 use Rattle.gorsepetal.specs.Calls.{is_relay, feed_answer, feed_state, feed_out}
 
 -- "The caller says how many ends and status channels there are." Refusals 17 and 13.
@@ -40,6 +40,10 @@ abbrev pub out_by : Outcome → (s out : List ℕ) → List ℕ
 out_by (Stopped e) s out = out
 out_by More s out = out
 out_by (Whole sh g) s out = feed_out s (frame_in sh.ends g) out
+
+-- The frame that a reader's slice holds, behind the time, where a record was whole.
+abbrev pub held_frame : (r : List ℕ) → List ℕ
+held_frame r = take (frame_end r - 12) (drop 12 r)
 
 -- Refusal 17 stands first: a state or a reader of another length.
 abbrev pub both_lent : (s r : List ℕ) → Bool

@@ -1,10 +1,11 @@
 // What C calls, by way of gorsepetal_c, to read and to write event files (document 02, CR 5). The reader is a second lent state, beside the
 // relay's own.
-ghost use Rattle.gorsepetal.specs.Calls.{Unchanged};
-ghost use Rattle.gorsepetal.specs.EventFiles.{read_answer, read_state, read_reader, read_out, EventsOpened, EventsWanted, EventsRead, EventsEnded, EventsWritten};
+ghost use Rattle.std.specs.Prelude.{◌≡◌};
+ghost use Rattle.gorsepetal.specs.Calls.{feed_answer, feed_state, feed_out, Unchanged};
+ghost use Rattle.gorsepetal.specs.EventFiles.{held_frame, read_answer, read_state, read_reader, read_out, EventsOpened, EventsWanted, EventsRead, EventsEnded, EventsWritten};
 
 use answers::{Answer, Refusal};
-use events::Step;
+use events::{LENGTH, Step};
 
 // Puts a reader at the start of a file with so many ends and status channels.
 pub fn gorsepetal_events_open(reader: &mut [u8], ends: u64, status: u64) -> u64
@@ -20,6 +21,17 @@ pub fn gorsepetal_events_wanted(reader: &[u8]) -> u64
     events::wanted(reader) as u64
 }
 
+// The frame that a reader holds is fed.
+fn feed_held(state: &mut [u8], reader: &[u8; LENGTH], out: &mut [u8]) -> Answer
+    ensures answer { result ≡ feed_answer state.old (held_frame reader.now) out.old }
+    ensures state { state.new ≡ feed_state state.old (held_frame reader.now) out.old }
+    ensures buffer { out.new ≡ feed_out state.old (held_frame reader.now) out.old }
+{
+    let to = events::frame_end(reader);
+    crate::feed(state, &reader[events::FRAME..to], out)
+}
+
+#[tactic(auto, using(crate::proofs::EventCases::no_relay, crate::proofs::EventCases::no_reader, crate::proofs::EventCases::refused_answer, crate::proofs::EventCases::refused_state, crate::proofs::EventCases::refused_reader, crate::proofs::EventCases::refused_out, crate::proofs::EventCases::reader_is,))]
 fn read(state: &mut [u8], reader: &mut [u8], bytes: &[u8], out: &mut [u8]) -> Answer
     ensures answer { result ≡ read_answer state.old reader.old bytes.now out.old }
     ensures state { state.new ≡ read_state state.old reader.old bytes.now out.old }
@@ -29,15 +41,13 @@ fn read(state: &mut [u8], reader: &mut [u8], bytes: &[u8], out: &mut [u8]) -> An
     if state.len() != crate::STATE_LENGTH {
         return Err(Refusal::NoRelay);
     }
-    let Ok(reader) = <&mut [u8; events::LENGTH]>::try_from(reader) else {
+    let Some(reader) = reader.as_mut_array::<LENGTH>() else {
         return Err(Refusal::NoRelay);
     };
-    match events::read(reader, bytes)? {
-        Step::Taken => Ok(()),
-        Step::Whole => {
-            let to = events::frame_end(reader);
-            crate::feed(state, &reader[events::FRAME..to], out)
-        }
+    match events::read(reader, bytes) {
+        Err(refusal) => Err(refusal),
+        Ok(Step::Taken) => Ok(()),
+        Ok(Step::Whole) => feed_held(state, reader, out),
     }
 }
 

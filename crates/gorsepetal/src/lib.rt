@@ -6,7 +6,7 @@ ghost use Rattle.std.specs.Prelude.{◌≡◌, ◌*◌, ◌≤◌, length, Ok, E
 ghost use Rattle.samples.specs.Window.{window_length};
 ghost use Rattle.entry.specs.Pair.{record_length};
 ghost use Rattle.entry.specs.Entry as entry_rule;
-ghost use Rattle.gorsepetal.specs.State.{settings_of};
+ghost use Rattle.gorsepetal.specs.State.{state_length, settings_of};
 ghost use Rattle.gorsepetal.specs.Calls.{verdict, ready, propose_answer, propose_state, confirm_answer, confirm_state, read_back_answer, read_back_out, window_bytes, feed_answer, feed_state, feed_out, Unchanged, Proposed, Confirmed, ReadBack, DecidedNumbers, Decided, Fed};
 
 pub mod event_files;
@@ -59,8 +59,10 @@ fn stored(r: &[u8], absent: Refusal) -> Answer
 }
 
 // The record in force, to go by; or the refusal where this is no relay, or none is in force.
+#[tactic(auto, using(crate::proofs::Cases::counts))]
 fn in_force(state: &[u8]) -> Result<Settings<'_>, Refusal>
     ensures good { IfOk result (λ s. (ready state.now ≡ Ok tt) × (s.bytes.now ≡ (settings_of state.now).force)) }
+    ensures lengths { IfOk result (λ s. (length state.now ≡ state_length) × (length s.bytes.now ≡ record_length)) }
     ensures none { IfErr result (λ refusal. ready state.now ≡ Err refusal) }
 {
     if state.len() != STATE_LENGTH {
@@ -112,6 +114,7 @@ pub fn gorsepetal_confirm(state: &mut [u8], entry: &[u8]) -> u64
     answers::given_back(confirm(state, entry))
 }
 
+#[tactic(auto, using(crate::proofs::Cases::read_done, crate::proofs::Cases::read_out))]
 fn read_back(state: &[u8], out: &mut [u8]) -> Answer
     ensures answer { result ≡ read_back_answer state.now out.old }
     ensures buffer { out.new ≡ read_back_out state.now out.old }

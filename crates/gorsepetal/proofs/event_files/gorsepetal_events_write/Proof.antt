@@ -1,8 +1,0 @@
--- `gorsepetal::event_files::gorsepetal_events_write` meets its contract: the answer of the function below is given back.
-use borrow.Author.Rules.{rules}
-use Rattle.gorsepetal.proofs.EventCases.{write_on}
-use Rattle.gorsepetal.proofs.event_files.gorsepetal_events_write.Statement.{statement}
-use Rattle.gorsepetal.proofs.event_files.gorsepetal_events_write.Tie as tie
-
-pub gorsepetal_events_write_spec : {M : Type 1} → statement M
-gorsepetal_events_write_spec = tie.close (tie.spec (λ c κs. search rules) (λ c κs. search rules) (λ c. search rules) (λ c. search (rules, write_on)))
