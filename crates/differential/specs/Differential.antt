@@ -6,12 +6,11 @@ use Rattle.whole.specs.Root.{floor_root, root_up}
 use Rattle.whole.specs.Sum.{sum_of}
 use Rattle.whole.specs.Bits.{bits}
 use Rattle.plane.specs.declared.Phasor.{Phasor}
+use Rattle.plane.specs.declared.Phases.{Phases}
 use Rattle.plane.specs.Plane.{squared_magnitude}
 use Rattle.phasors.specs.Grid.{total}
 use Rattle.settings.specs.Table.{most_slope}
-use Rattle.differential.specs.declared.change.Changes.{Changes}
 use Rattle.differential.specs.declared.Comparison.{Comparison}
-use Rattle.differential.specs.declared.Comparisons.{Comparisons}
 
 -- ---- what is compared
 
@@ -32,7 +31,7 @@ abbrev pub comparison : (ℕ → Phasor) → ℕ → Comparison
 comparison i n = record { square = square i n; restraint = restraint i n }
 
 -- and of each phase
-abbrev pub comparisons : (ℕ → ℕ → Phasor) → ℕ → Comparisons
+abbrev pub comparisons : (ℕ → ℕ → Phasor) → ℕ → Phases Comparison
 comparisons i n = record { a = comparison (i 0) n; b = comparison (i 1) n; c = comparison (i 2) n }
 
 -- "floor of the root of 4096 s": the magnitude of the differential, in sixty-fourths of a count
@@ -46,7 +45,7 @@ unfoldable pub operates : ℕ → ℕ → Comparison → Bool
 operates K pickup x = leb (pickup * pickup) x.square && ltb (K * x.restraint * (K * x.restraint)) (40960000 * x.square)
 
 -- "phases a=1, b=2, c=4"
-unfoldable pub operating_bits : ℕ → ℕ → Comparisons → ℕ
+unfoldable pub operating_bits : ℕ → ℕ → Phases Comparison → ℕ
 operating_bits K pickup x = bits (operates K pickup x.a ∷ operates K pickup x.b ∷ operates K pickup x.c ∷ [])
 
 -- ---- the slope at which it changes (document 02, CR 6)
@@ -61,5 +60,5 @@ abbrev pub slope_of_change : ℕ → Comparison → ℕ
 slope_of_change pickup x = counted_up most_slope 0 pickup x
 
 -- of each phase
-abbrev pub slopes_of_change : ℕ → Comparisons → Changes
+abbrev pub slopes_of_change : ℕ → Phases Comparison → Phases ℕ
 slopes_of_change pickup x = record { a = slope_of_change pickup x.a; b = slope_of_change pickup x.b; c = slope_of_change pickup x.c }

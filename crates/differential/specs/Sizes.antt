@@ -2,8 +2,8 @@
 -- this file by.
 use Rattle.std.specs.Prelude.{ℕ, ◌*◌, ◌≤◌}
 use Rattle.settings.specs.Table.{most_ends}
+use Rattle.plane.specs.declared.Phases.{Phases}
 use Rattle.differential.specs.declared.Comparison.{Comparison}
-use Rattle.differential.specs.declared.Comparisons.{Comparisons}
 
 -- 64 times the root of 2 times 42000², rounded up
 abbrev pub end_most : ℕ
@@ -20,7 +20,7 @@ pub record Sized (x : Comparison) : Type 0 where
   pub square_size : x.square ≤ square_most
   pub restraint_size : x.restraint ≤ restraint_most
 
-pub record AllSized (x : Comparisons) : Type 0 where
+pub record AllSized (x : Phases Comparison) : Type 0 where
   pub sized_a : Sized x.a
   pub sized_b : Sized x.b
   pub sized_c : Sized x.c

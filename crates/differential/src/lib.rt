@@ -4,16 +4,18 @@
 
 pub mod change; // the slope at which a phase changes
 
-ghost use Rattle.std.specs.Prelude.{◌≡◌, ◌<◌, ◌≤◌};
+ghost use Rattle.std.specs.Prelude.{◌≡◌, ℕ, ◌<◌, ◌≤◌, get_or};
+ghost use Rattle.plane.specs.Plane.{zero};
 ghost use Rattle.plane.specs.Sizes.{Inside, phasor_size};
 ghost use Rattle.phasors.specs.Grid.{cell};
 ghost use Rattle.phasors.specs.Sizes.{GridInside};
 ghost use Rattle.settings.specs.Table.{most_slope, most_counts};
-ghost use Rattle.settings.specs.Fields.{Ranges, slope, pickup};
+ghost use Rattle.settings.specs.Fields.{slope, pickup};
 ghost use Rattle.differential.specs.Differential.{end_restraint, comparison, comparisons, magnitude, operates, operating_bits};
 ghost use Rattle.differential.specs.Sizes.{Sized, AllSized, end_most, restraint_most};
 
-use plane::Phasor;
+use plane::{Phases, Phasor};
+use settings::Settings;
 
 // A magnitude in sixty-fourths of a count has 4096 times the square.
 const SIXTY_FOURTHS_SQUARED: u64 = 4096;
@@ -28,15 +30,8 @@ pub struct Comparison {
     pub restraint: u64,
 }
 
-// The same in the three phases.
-#[derive(Clone, Copy)]
-pub struct Comparisons {
-    pub a: Comparison,
-    pub b: Comparison,
-    pub c: Comparison,
-}
-
 // What one end adds to the restraint: its magnitude in sixty-fourths of a count, rounded up.
+#[tactic(auto, using(crate::proofs::Sizes::end_most_lem), unfolding(crate::specs::Differential::end_restraint))]
 fn end_restraint(i: Phasor) -> u64
     requires { Inside phasor_size i }
     ensures { (result ≡ end_restraint i) × (result ≤ end_most) }
@@ -44,34 +39,36 @@ fn end_restraint(i: Phasor) -> u64
     whole::root_up(SIXTY_FOURTHS_SQUARED * plane::squared_magnitude(i))
 }
 
-// s and U of a phase, in one pass over the ends.
-fn of_phase(grid: [[Phasor; 6]; 3], p: usize, ends: usize) -> Comparison
-    requires { (p < 3) × (ends ≤ 6) × GridInside grid ends }
-    ensures { (result ≡ comparison (cell grid p) ends) × Sized result }
+// s and U of a phase, in one pass over its ends.
+fn of_phase(currents: &[Phasor; 6], ends: usize) -> Comparison
+    requires { (ends ≤ 6) × ((e : ℕ) → e < ends → Inside phasor_size (get_or currents.now e zero)) }
+    ensures { (result ≡ comparison (λ e. get_or currents.now e zero) ends) × Sized result }
 {
     let mut sum = Phasor { re: 0, im: 0 };
     let mut restraint: u64 = 0;
-    for e in 0..ends {
-        let i = grid[p][e];
+    for &i in &currents[..ends] {
         sum = plane::plus(sum, i);
-        restraint = restraint + end_restraint(i);
+        restraint += end_restraint(i);
     }
     let square = plane::squared_magnitude(sum);
     Comparison { square, restraint }
 }
 
 // What is compared in each phase, from the currents of all ends.
-pub fn of_phases(grid: [[Phasor; 6]; 3], ends: usize) -> Comparisons
+pub fn of_phases(grid: [[Phasor; 6]; 3], ends: usize) -> Phases<Comparison>
     requires { (ends ≤ 6) × GridInside grid ends }
     ensures { (result ≡ comparisons (cell grid) ends) × AllSized result }
 {
-    let a = of_phase(grid, 0, ends);
-    let b = of_phase(grid, 1, ends);
-    let c = of_phase(grid, 2, ends);
-    Comparisons { a, b, c }
+    let [a, b, c] = grid;
+    Phases {
+        a: of_phase(&a, ends),
+        b: of_phase(&b, ends),
+        c: of_phase(&c, ends),
+    }
 }
 
 // The magnitude of the differential in sixty-fourths of a count, rounded down.
+#[tactic(auto, using(crate::proofs::Sizes::magnitude_most), unfolding(crate::specs::Differential::magnitude))]
 pub fn magnitude(x: Comparison) -> u64
     requires { Sized x }
     ensures { (result ≡ magnitude x) × (result ≤ restraint_most) }
@@ -80,6 +77,7 @@ pub fn magnitude(x: Comparison) -> u64
 }
 
 // Whether a phase operates at a slope, in percent, and with a pickup, in counts.
+#[tactic(auto, unfolding(crate::specs::Differential::operates))]
 pub fn operates(slope: u64, pickup: u64, x: Comparison) -> bool
     requires { (slope ≤ most_slope) × (pickup ≤ most_counts) × Sized x }
     ensures { result ≡ operates slope pickup x }
@@ -89,14 +87,16 @@ pub fn operates(slope: u64, pickup: u64, x: Comparison) -> bool
 }
 
 // The phases that operate by a good settings record: a 1, b 2, c 4.
-pub fn operating_bits(s: &[u8], x: Comparisons) -> u8
-    requires { Ranges s.now × AllSized x }
-    ensures { (result ≡ operating_bits (slope s.now) (pickup s.now) x) × (result < 8) }
+#[tactic(auto, unfolding(crate::specs::Differential::operating_bits))]
+pub fn operating_bits(s: Settings, x: Phases<Comparison>) -> u8
+    requires { AllSized x }
+    ensures { (result ≡ operating_bits (slope s.entry.bytes.now) (pickup s.entry.bytes.now) x) × (result < 8) }
 {
-    let slope = settings::fields::slope(s);
-    let pickup = settings::fields::pickup(s);
-    let a = operates(slope, pickup, x.a);
-    let b = operates(slope, pickup, x.b);
-    let c = operates(slope, pickup, x.c);
-    whole::three_bits(a, b, c)
+    let slope = s.slope();
+    let pickup = s.pickup();
+    whole::three_bits(
+        operates(slope, pickup, x.a),
+        operates(slope, pickup, x.b),
+        operates(slope, pickup, x.c),
+    )
 }
