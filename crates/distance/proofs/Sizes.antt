@@ -7,13 +7,14 @@ use Rattle.whole.proofs.Size.{lit, rd}
 use Rattle.whole.proofs.Machine.{Read}
 use Rattle.plane.specs.declared.Phasor.{Phasor}
 use Rattle.plane.specs.declared.Phases.{Phases}
+use Rattle.plane.specs.Plane.{plus, minus, minus_j}
 use Rattle.plane.specs.Sizes.{Inside, AllInside, phasor_size}
 use Rattle.plane.proofs.Bounds.{inside_plus, inside_minus, inside_minus_j, inside_factor, inside_rounded, inside_wider}
 use Rattle.plane.proofs.Steps.{product}
 use Rattle.settings.specs.Table.{most_reach}
 use Rattle.distance.specs.Sizes.{Compensates, LoopInside, residual_size, k_product_size, numerator_size, denominator_size}
 use Rattle.direction.specs.Sizes.{polarising_size}
-use Rattle.distance.specs.Mho.{residual, k_product, ground_loop, phase_loop}
+use Rattle.distance.specs.Mho.{residual, k_product}
 
 -- Ia+Ib+Ic
 pub residual_inside : {i : Phases Phasor} → AllInside phasor_size i → Inside residual_size (residual i)
@@ -28,14 +29,12 @@ k_product_inside k i = inside_wider (inside_rounded 1000 tt (inside_factor k.rea
 -- the loops
 pub ground_loop_inside :
     {v i k p : Phasor} → Inside phasor_size v → Inside phasor_size i → Inside k_product_size k → Inside polarising_size p
-    → LoopInside (ground_loop v i k p)
-unfolding ground_loop
+    → LoopInside (record { v = v; i = plus i k; vp = p })
 ground_loop_inside v i k p = record { voltage = inside_wider v tt; current = inside_plus i k; polarising = p }
 
 pub phase_loop_inside :
     {vx vy ix iy p : Phasor} → Inside phasor_size vx → Inside phasor_size vy → Inside phasor_size ix → Inside phasor_size iy
-    → Inside polarising_size p → LoopInside (phase_loop vx vy ix iy p)
-unfolding phase_loop
+    → Inside polarising_size p → LoopInside (record { v = minus vx vy; i = minus ix iy; vp = minus_j p })
 phase_loop_inside vx vy ix iy p =
     record { voltage = inside_minus vx vy; current = inside_wider (inside_minus ix iy) tt; polarising = inside_minus_j p }
 

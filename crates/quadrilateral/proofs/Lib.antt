@@ -1,2 +1,3 @@
--- The laws that a reader will look for.
+-- How large the quantities of a quadrilateral are, and the laws that a reader will look for.
+pub mod Sizes
 pub mod Laws

@@ -7,7 +7,7 @@ ghost use Rattle.whole.specs.Sizes.{Within};
 ghost use Rattle.plane.specs.Plane.{cross};
 ghost use Rattle.plane.specs.Sizes.{Inside, AllInside, phasor_size};
 ghost use Rattle.settings.specs.Table.{most_replica, most_reach, most_resistive_reach};
-ghost use Rattle.settings.specs.Fields.{Ranges, reach, resistive_reach};
+ghost use Rattle.settings.specs.Fields.{reach, resistive_reach};
 ghost use Rattle.distance.specs.Sizes.{loop_voltage_size, residual_size, LoopInside, SixInside};
 ghost use Rattle.distance.specs.Constants.{replica};
 ghost use Rattle.distance.specs.Mho.{residual};
@@ -18,6 +18,7 @@ use direction::Direction;
 use distance::constants;
 use distance::mho::{Loop, SixLoops};
 use plane::{Phases, Phasor};
+use settings::Settings;
 
 // Z and the reach are in thousandths, their product in millionths.
 const REACH_SCALE: i64 = 1000000;
@@ -25,20 +26,13 @@ const REACH_SCALE: i64 = 1000000;
 // R is in tenths.
 const TENTHS: u64 = 10;
 
-// |z|.
-fn size(z: i64) -> u64
-    requires { Within side_size z }
-    ensures { result ≡ nat_abs z }
-{
-    if z < 0 { (-z) as u64 } else { z as u64 }
-}
-
 // |Im[p (ZI)*]|: it is |n| for V, and |q| for Ir. Here zi is Z I.
+#[tactic(auto, using(crate::proofs::Sizes::side_within))]
 fn across(p: Phasor, zi: Phasor) -> u64
     requires { Inside residual_size p × Inside drop_size zi }
     ensures { (result ≡ nat_abs (cross p zi)) × (result ≤ side_size) }
 {
-    size(plane::cross(p, zi))
+    plane::cross(p, zi).unsigned_abs()
 }
 
 // Whether V lies below the reactance line at reach r.
@@ -60,6 +54,7 @@ fn between_sides(limit: u64, n: u64, q: u64) -> bool
 }
 
 // Whether a ground loop sees a fault, whichever way that lies.
+#[tactic(auto, using(crate::proofs::Sizes::sizes), unfolding(crate::specs::Quadrilateral::sees))]
 fn sees(z: Phasor, r: i64, limit: u64, ir: Phasor, l: Loop) -> bool
     requires { Inside most_replica z × Within most_reach r × (limit ≤ most_resistive_reach) × Inside residual_size ir × LoopInside l }
     ensures { result ≡ sees z r limit ir l }
@@ -69,28 +64,26 @@ fn sees(z: Phasor, r: i64, limit: u64, ir: Phasor, l: Loop) -> bool
 }
 
 // The three that see one by a good settings record: A 1, B 2, C 4.
-fn seeing(s: &[u8], ir: Phasor, l: SixLoops) -> u8
-    requires { Ranges s.now × Inside residual_size ir × SixInside l }
-    ensures { (result ≡ seeing (replica s.now) (pos (reach s.now)) (resistive_reach s.now) ir l) × (result < 8) }
+#[tactic(auto, unfolding(crate::specs::Quadrilateral::seeing))]
+fn seeing(s: Settings, ir: Phasor, l: SixLoops) -> u8
+    requires { Inside residual_size ir × SixInside l }
+    ensures seen { result ≡ seeing (replica s.entry.bytes.now) (pos (reach s.entry.bytes.now)) (resistive_reach s.entry.bytes.now) ir l }
+    ensures three_bits { result < 8 }
 {
     let z = constants::replica(s);
-    let r = settings::fields::reach(s);
-    let limit = settings::fields::resistive_reach(s);
-    let a = sees(z, r, limit, ir, l.ag);
-    let b = sees(z, r, limit, ir, l.bg);
-    let c = sees(z, r, limit, ir, l.cg);
-    whole::three_bits(a, b, c)
+    let r = s.reach();
+    let limit = s.resistive_reach();
+    let seen = |l: Loop| sees(z, r, limit, ir, l);
+    whole::three_bits(seen(l.ag), seen(l.bg), seen(l.cg))
 }
 
 // The same where they are on and the fault lies ahead, from the currents of end 1 and its loops; else none.
-pub fn of_fault(s: &[u8], i: Phases<Phasor>, l: SixLoops, d: Direction) -> u8
-    requires { Ranges s.now × AllInside phasor_size i × SixInside l }
-    ensures { (result ≡ quadrilaterals_of s.now i l d) × (result < 8) }
+#[tactic(auto, unfolding(crate::specs::Quadrilateral::quadrilaterals_of))]
+pub fn of_fault(s: Settings, i: Phases<Phasor>, l: SixLoops, d: Direction) -> u8
+    requires { AllInside phasor_size i × SixInside l }
+    ensures { (result ≡ quadrilaterals_of s.entry.bytes.now i l d) × (result < 8) }
 {
-    if settings::fields::resistive_reach(s) == 0 {
-        return 0;
-    }
-    if direction::is_forward(d) {
+    if s.resistive_reach() != 0 && direction::is_forward(d) {
         seeing(s, distance::mho::residual(i), l)
     } else {
         0

@@ -1,6 +1,5 @@
 -- The product fits before it is rounded.
 use mathlib.Core.Path.{refl}
-use lib.IntN.{pos}
 use lib.Signed.{lt_z_yes}
 use Rattle.whole.proofs.Size.{lit, wider}
 use Rattle.plane.proofs.Bounds.{inside_factor, inside_wider}
@@ -11,7 +10,7 @@ use Rattle.distance.proofs.mho.k_product.Goals as goal
 pub rounded-requires : goal.rounded-requires
 rounded-requires c =
     let k = c.requires.0 in
-    (lt_z_yes tt, rw c.times.ensures (inside_wider (inside_factor k.real k.imag c.residual.ensures.1) tt), wider (lit (pos 1000)) tt)
+    (lt_z_yes tt, rw c.times.ensures (inside_wider (inside_factor k.real k.imag c.residual.ensures.1) tt), wider (lit _) tt)
 
 pub returns : goal.returns
 unfolding k_product
