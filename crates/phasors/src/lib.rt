@@ -11,8 +11,8 @@ ghost use Rattle.phasors.specs.Grid.{Filled, local_of, voltages_of};
 
 use plane::{Phases, Phasor};
 
-// The cosines at scale 16384. A static, since a constant table that is indexed is built anew at each read.
-static COSINES: [i16; 16] = [
+// The cosines at scale 16384.
+const COSINES: [i16; 16] = [
     16384, 15137, 11585, 6270, 0, -6270, -11585, -15137, -16384, -15137, -11585, -6270, 0, 6270,
     11585, 15137,
 ];
