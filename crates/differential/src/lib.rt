@@ -24,6 +24,7 @@ const SIXTY_FOURTHS_SQUARED: u64 = 4096;
 const SLOPE_SCALE: u64 = 40960000;
 
 // What is compared in one phase: the squared magnitude s of the differential, in counts, and the restraint U, in sixty-fourths of a count.
+// That they are `Sized` stands in the contracts, and not in the type: the definitions compare numbers of any size.
 #[derive(Clone, Copy)]
 pub struct Comparison {
     pub square: u64,
@@ -39,7 +40,7 @@ fn end_restraint(i: Phasor) -> u64
     whole::root_up(SIXTY_FOURTHS_SQUARED * plane::squared_magnitude(i))
 }
 
-// s and U of a phase, in one pass over its ends.
+// s and U of a phase, in one pass over its ends: a row of the grid, of which so many places are filled.
 fn of_phase(currents: &[Phasor; 6], ends: usize) -> Comparison
     requires { (ends ≤ 6) × ((e : ℕ) → e < ends → Inside phasor_size (get_or currents.now e zero)) }
     ensures { (result ≡ comparison (λ e. get_or currents.now e zero) ends) × Sized result }

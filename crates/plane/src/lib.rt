@@ -6,7 +6,8 @@ ghost use Rattle.whole.specs.Sizes.{Within};
 ghost use Rattle.plane.specs.Plane.{plus, minus, times, scaled, rounded, dot, cross, squared, squared_magnitude, minus_j};
 ghost use Rattle.plane.specs.Sizes.{Inside, Multiply};
 
-// A voltage or a current in counts, or any other complex number.
+// A voltage or a current in counts, or any other complex number. How large it is stands in each contract, and not in the type: the
+// definitions work with complex numbers of any size.
 #[derive(Clone, Copy)]
 pub struct Phasor {
     pub re: i64,

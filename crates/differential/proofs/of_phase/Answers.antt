@@ -14,7 +14,8 @@ loop-i-init c = record { sum_is = refl; restraint_is = refl; restraint_size = ze
 
 pub plus-sum-requires : goal.plus-sum-requires
 plus-sum-requires c =
-    (inside_wider (sum_inside _ _ c.requires c.loop-i.invariant.sum_is (omega arith)) tt, search (rules, no_larger, get_or-take, c.requires.1))
+    let sum = sum_inside _ _ c.requires c.loop-i.invariant.sum_is (omega arith) in
+    (inside_wider sum tt, search (rules, no_larger, get_or-take, c.requires.1))
 
 pub loop-i-preserved : goal.loop-i-preserved
 loop-i-preserved c =
@@ -30,4 +31,5 @@ squared_magnitude-square-requires c = inside_wider (sum_inside _ _ c.requires c.
 
 pub returns : goal.returns
 returns c =
-    compared _ _ c.requires {n = c.loop-i.i-index} {sum = c.loop-i.sum} (search rules) (search rules) (search rules) (omega arith) (search rules)
+    compared _ _ c.requires {n = c.loop-i.i-index} {sum = c.loop-i.sum} (search rules) (search rules) (search rules) (omega arith)
+    (search rules)
