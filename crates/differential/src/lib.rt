@@ -48,7 +48,7 @@ fn of_phase(currents: &[Phasor; 6], ends: usize) -> Comparison
     let mut sum = Phasor { re: 0, im: 0 };
     let mut restraint: u64 = 0;
     for &i in &currents[..ends] {
-        sum = plane::plus(sum, i);
+        sum = sum + i;
         restraint += end_restraint(i);
     }
     let square = plane::squared_magnitude(sum);

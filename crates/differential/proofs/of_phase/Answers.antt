@@ -12,8 +12,8 @@ pub loop-i-init : goal.loop-i-init
 unfolding total restraint sum_of
 loop-i-init c = record { sum_is = refl; restraint_is = refl; restraint_size = zero-le }
 
-pub plus-sum-requires : goal.plus-sum-requires
-plus-sum-requires c =
+pub add-sum-requires : goal.add-sum-requires
+add-sum-requires c =
     let sum = sum_inside _ _ c.requires c.loop-i.invariant.sum_is (omega arith) in
     (inside_wider sum tt, search (rules, no_larger, get_or-take, c.requires.1))
 
