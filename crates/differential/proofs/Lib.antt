@@ -1,5 +1,6 @@
 -- Laws of the percentage differential: sizes, what operates, and demand 3 from one end to all.
 pub mod Sizes
+pub mod Phase
 pub mod Filled
 pub mod Rule
 pub mod OneEnd

@@ -6,11 +6,11 @@ use Rattle.whole.specs.Root.{floor_root, root_up}
 use Rattle.whole.specs.Sum.{sum_of}
 use Rattle.whole.specs.Bits.{bits}
 use Rattle.plane.specs.declared.Phasor.{Phasor}
+use Rattle.plane.specs.declared.Phases.{Phases}
 use Rattle.plane.specs.Plane.{squared_magnitude}
 use Rattle.phasors.specs.Grid.{total}
 use Rattle.settings.specs.Table.{most_slope}
 use Rattle.differential.specs.declared.Comparison.{Comparison}
-use Rattle.plane.specs.declared.Phases.{Phases}
 
 -- ---- what is compared
 

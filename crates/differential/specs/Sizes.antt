@@ -2,8 +2,8 @@
 -- this file by.
 use Rattle.std.specs.Prelude.{ℕ, ◌*◌, ◌≤◌}
 use Rattle.settings.specs.Table.{most_ends}
-use Rattle.differential.specs.declared.Comparison.{Comparison}
 use Rattle.plane.specs.declared.Phases.{Phases}
+use Rattle.differential.specs.declared.Comparison.{Comparison}
 
 -- 64 times the root of 2 times 42000², rounded up
 abbrev pub end_most : ℕ

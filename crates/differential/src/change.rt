@@ -22,7 +22,7 @@ fn slope_of_change(pickup: u64, x: Comparison) -> u8
     let mut width: u64 = CANDIDATES;
     while 1 < width {
         let half = width / 2;
-        width = width - half;
+        width -= half;
         let slope = least + half;
         if crate::operates(slope, pickup, x) {
             least = slope;
@@ -37,8 +37,9 @@ pub fn slopes_of_change(s: Settings, x: Phases<Comparison>) -> Phases<u8>
     ensures { result ≡ slopes_of_change (pickup s.entry.bytes.now) x }
 {
     let pickup = s.pickup();
-    let a = slope_of_change(pickup, x.a);
-    let b = slope_of_change(pickup, x.b);
-    let c = slope_of_change(pickup, x.c);
-    Phases { a, b, c }
+    Phases {
+        a: slope_of_change(pickup, x.a),
+        b: slope_of_change(pickup, x.b),
+        c: slope_of_change(pickup, x.c),
+    }
 }

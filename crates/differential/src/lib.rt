@@ -4,7 +4,8 @@
 
 pub mod change; // the slope at which a phase changes
 
-ghost use Rattle.std.specs.Prelude.{◌≡◌, ◌<◌, ◌≤◌};
+ghost use Rattle.std.specs.Prelude.{◌≡◌, ℕ, ◌<◌, ◌≤◌, get_or};
+ghost use Rattle.plane.specs.Plane.{zero};
 ghost use Rattle.plane.specs.Sizes.{Inside, phasor_size};
 ghost use Rattle.phasors.specs.Grid.{cell};
 ghost use Rattle.phasors.specs.Sizes.{GridInside};
@@ -23,6 +24,7 @@ const SIXTY_FOURTHS_SQUARED: u64 = 4096;
 const SLOPE_SCALE: u64 = 40960000;
 
 // What is compared in one phase: the squared magnitude s of the differential, in counts, and the restraint U, in sixty-fourths of a count.
+// That they are `Sized` stands in the contracts, and not in the type: the definitions compare numbers of any size.
 #[derive(Clone, Copy)]
 pub struct Comparison {
     pub square: u64,
@@ -30,6 +32,7 @@ pub struct Comparison {
 }
 
 // What one end adds to the restraint: its magnitude in sixty-fourths of a count, rounded up.
+#[tactic(auto, using(crate::proofs::Sizes::end_most_lem), unfolding(crate::specs::Differential::end_restraint))]
 fn end_restraint(i: Phasor) -> u64
     requires { Inside phasor_size i }
     ensures { (result ≡ end_restraint i) × (result ≤ end_most) }
@@ -37,17 +40,16 @@ fn end_restraint(i: Phasor) -> u64
     whole::root_up(SIXTY_FOURTHS_SQUARED * plane::squared_magnitude(i))
 }
 
-// s and U of a phase, in one pass over the ends.
-fn of_phase(grid: [[Phasor; 6]; 3], p: usize, ends: usize) -> Comparison
-    requires { (p < 3) × (ends ≤ 6) × GridInside grid ends }
-    ensures { (result ≡ comparison (cell grid p) ends) × Sized result }
+// s and U of a phase, in one pass over its ends: a row of the grid, of which so many places are filled.
+fn of_phase(currents: &[Phasor; 6], ends: usize) -> Comparison
+    requires { (ends ≤ 6) × ((e : ℕ) → e < ends → Inside phasor_size (get_or currents.now e zero)) }
+    ensures { (result ≡ comparison (λ e. get_or currents.now e zero) ends) × Sized result }
 {
     let mut sum = Phasor { re: 0, im: 0 };
     let mut restraint: u64 = 0;
-    for e in 0..ends {
-        let i = grid[p][e];
-        sum = plane::plus(sum, i);
-        restraint = restraint + end_restraint(i);
+    for &i in &currents[..ends] {
+        sum = sum + i;
+        restraint += end_restraint(i);
     }
     let square = plane::squared_magnitude(sum);
     Comparison { square, restraint }
@@ -58,13 +60,16 @@ pub fn of_phases(grid: [[Phasor; 6]; 3], ends: usize) -> Phases<Comparison>
     requires { (ends ≤ 6) × GridInside grid ends }
     ensures { (result ≡ comparisons (cell grid) ends) × AllSized result }
 {
-    let a = of_phase(grid, 0, ends);
-    let b = of_phase(grid, 1, ends);
-    let c = of_phase(grid, 2, ends);
-    Phases { a, b, c }
+    let [a, b, c] = grid;
+    Phases {
+        a: of_phase(&a, ends),
+        b: of_phase(&b, ends),
+        c: of_phase(&c, ends),
+    }
 }
 
 // The magnitude of the differential in sixty-fourths of a count, rounded down.
+#[tactic(auto, using(crate::proofs::Sizes::magnitude_most), unfolding(crate::specs::Differential::magnitude))]
 pub fn magnitude(x: Comparison) -> u64
     requires { Sized x }
     ensures { (result ≡ magnitude x) × (result ≤ restraint_most) }
@@ -73,6 +78,7 @@ pub fn magnitude(x: Comparison) -> u64
 }
 
 // Whether a phase operates at a slope, in percent, and with a pickup, in counts.
+#[tactic(auto, unfolding(crate::specs::Differential::operates))]
 pub fn operates(slope: u64, pickup: u64, x: Comparison) -> bool
     requires { (slope ≤ most_slope) × (pickup ≤ most_counts) × Sized x }
     ensures { result ≡ operates slope pickup x }
@@ -82,14 +88,16 @@ pub fn operates(slope: u64, pickup: u64, x: Comparison) -> bool
 }
 
 // The phases that operate by a good settings record: a 1, b 2, c 4.
+#[tactic(auto, unfolding(crate::specs::Differential::operating_bits))]
 pub fn operating_bits(s: Settings, x: Phases<Comparison>) -> u8
     requires { AllSized x }
     ensures { (result ≡ operating_bits (slope s.entry.bytes.now) (pickup s.entry.bytes.now) x) × (result < 8) }
 {
     let slope = s.slope();
     let pickup = s.pickup();
-    let a = operates(slope, pickup, x.a);
-    let b = operates(slope, pickup, x.b);
-    let c = operates(slope, pickup, x.c);
-    whole::three_bits(a, b, c)
+    whole::three_bits(
+        operates(slope, pickup, x.a),
+        operates(slope, pickup, x.b),
+        operates(slope, pickup, x.c),
+    )
 }

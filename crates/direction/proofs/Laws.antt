@@ -1,15 +1,16 @@
 -- The statements of specs/Laws.antt, proved; and that each rounding is document 01's.
-use mathlib.Core.Path.{◌≡◌, refl, sym, ◌∙◌}
-use mathlib.Core.Bool.{Bool, true, false, cond, true≢false}
+use mathlib.Core.Path.{◌≡◌, refl}
+use mathlib.Core.Bool.{Bool, true, false, cond}
 use mathlib.Core.List.{List, [], ◌∷◌}
 use Prim.Native.Nat.{ℕ}
-use lib.Dec.{T, eqb, eqb_refl}
+use Rattle.std.proofs.Common.{arith}
+use Rattle.std.proofs.lemmas.Int.{ints}
 use lib.IntN.{ℤ, pos, ◌*ℤ◌}
-use lib.Signed.{◌≤ℤ◌, ◌<ℤ◌, lt_z, le_z}
+use lib.Signed.{◌<ℤ◌, lt_z, le_z}
 use Rattle.whole.specs.Exactly.{Exactly}
 use Rattle.whole.specs.Round.{Rounded}
-use Rattle.whole.proofs.Certificate.{quo, false!, g_le, g_lt, g_num, ◌⊞◌, ◌⊠◌}
-use Rattle.whole.proofs.Machine.{lt_true, lt_false, le_true, true_lt, false_lt, true_le}
+use Rattle.whole.proofs.Certificate.{quo, false!, g_lt, g_num, ◌⊞◌, ◌⊠◌}
+use Rattle.whole.proofs.Machine.{lt_true, le_true, true_lt, false_lt, true_le}
 use Rattle.settings.specs.Fields.{forward_limit, reverse_limit, negative_sequence_pickup}
 use Rattle.plane.specs.declared.Phasor.{Phasor}
 use Rattle.plane.specs.declared.Phases.{Phases}
@@ -18,7 +19,7 @@ use Rattle.plane.proofs.Laws.{squared_nonneg, times_zero, rounded_zero, rounded_
 use Rattle.direction.specs.declared.Direction.{Direction}
 use Rattle.direction.specs.declared.Direction.TheVariants.{None, Forward, Reverse}
 use Rattle.direction.specs.Sequence.{scale, sequence, turned}
-use Rattle.direction.specs.Direction.{angle, reaches_pickup, torque, side_of, direction_of, direction_number}
+use Rattle.direction.specs.Direction.{angle, reaches_pickup, torque, side_of, direction_of}
 use Rattle.direction.specs.Laws.{PickupReached, BelowPickup, NoneBelowPickup, NeverBoth, ForwardRule, ReverseRule}
 
 -- ---- direction
@@ -34,15 +35,7 @@ never_both s v2 i2 h f g =
 
 -- x <= y fails exactly where y < x
 le_fails : (x y : ℤ) → Exactly (le_z x y ≡ false) (y <ℤ x)
-le_fails x y = (by_order (lt_z y x) refl, by_test (le_z x y) refl)
-  where
-    by_order : (b : Bool) → lt_z y x ≡ b → le_z x y ≡ false → y <ℤ x
-    by_order true t e = lt_true t
-    by_order false t e = absurd (true≢false (sym (true_le {x = x} {y = y} (lt_false t)) ∙ e))
-
-    by_test : (b : Bool) → le_z x y ≡ b → y <ℤ x → b ≡ false
-    by_test true t h = let least : x ≤ℤ y = le_true t in absurd (false! (x ∷ y ∷ []) (g_le least ⊞ g_lt h) (search quo depth 40) tt)
-    by_test false t h = refl
+le_fails x y = (λ e. omega (arith, ints), λ h. grind (arith, ints))
 
 -- what the test of the pickup tells
 pub pickup_reached : (s : List ℕ) (i2 : Phasor) → Exactly (reaches_pickup s i2 ≡ true) (PickupReached s i2)
@@ -61,21 +54,17 @@ none_below_pickup s v2 i2 below = rw ((below_pickup s i2).1 below)
 abbrev by_tests : Bool → Bool → Bool → Direction
 by_tests reaches forward reverse = cond reaches (cond forward Forward (cond reverse Reverse None)) None
 
--- two directions with different numbers are not the same
-apart : {d e : Direction} → d ≡ e → T (eqb (direction_number d) (direction_number e))
-apart {d} h = rw (← h) (eqb_refl (direction_number d))
-
 is_forward_lem : (b c d : Bool) → by_tests b c d ≡ Forward → (b ≡ true) × (c ≡ true)
 is_forward_lem true true d e = (refl, refl)
-is_forward_lem true false true e = absurd (apart e)
-is_forward_lem true false false e = absurd (apart e)
-is_forward_lem false c d e = absurd (apart e)
+is_forward_lem true false true e = cc
+is_forward_lem true false false e = cc
+is_forward_lem false c d e = cc
 
 is_reverse : (b c d : Bool) → by_tests b c d ≡ Reverse → (b ≡ true) × (d ≡ true)
-is_reverse true true d e = absurd (apart e)
+is_reverse true true d e = cc
 is_reverse true false true e = (refl, refl)
-is_reverse true false false e = absurd (apart e)
-is_reverse false c d e = absurd (apart e)
+is_reverse true false false e = cc
+is_reverse false c d e = cc
 
 -- the three tests
 module _ (s : List ℕ) (v2 i2 : Phasor) where

@@ -37,7 +37,7 @@ fn sequence(f: Phasor, g: Phasor, x: Phases<Phasor>) -> Phasor
     let first = plane::scaled(SCALE, x.a);
     let second = plane::times(f, x.b);
     let third = plane::times(g, x.c);
-    plane::rounded(plane::plus(plane::plus(first, second), third), SCALE)
+    plane::rounded(first + second + third, SCALE)
 }
 
 // 3V1.

@@ -1,14 +1,15 @@
 -- The statements of specs/Laws.antt, proved; and that the k product's rounding is document 01's.
-use mathlib.Core.Path.{◌≡◌, refl, sym}
-use mathlib.Core.Bool.{Bool, true, false, cond, true≢false}
+use mathlib.Core.Path.{◌≡◌, refl}
+use mathlib.Core.Bool.{true}
 use mathlib.Core.List.{[], ◌∷◌}
+use Rattle.std.proofs.Common.{arith}
+use Rattle.std.proofs.lemmas.Int.{ints}
 use lib.IntN.{ℤ, pos, ◌*ℤ◌}
-use lib.Signed.{◌≤ℤ◌, ◌<ℤ◌, lt_z, le_z}
+use lib.Signed.{◌≤ℤ◌, ◌<ℤ◌}
 use Rattle.whole.specs.Exactly.{Exactly}
 use Rattle.whole.specs.Round.{Rounded}
 use Rattle.whole.proofs.Certificate.{quo, le!, g_le, g_lt, g_num, ◌⊞◌, ◌⊠◌}
 use Rattle.whole.proofs.Order.{≤_trans}
-use Rattle.whole.proofs.Machine.{lt_true, le_true, true_lt, true_le}
 use Rattle.plane.specs.declared.Phasor.{Phasor}
 use Rattle.plane.specs.declared.Phases.{Phases}
 use Rattle.plane.specs.Plane.{zero, times}
@@ -21,11 +22,7 @@ use Rattle.distance.specs.Laws.{MhoRule, LargerReach, NoPolarising, NoPositive}
 -- what the rule's answer tells, over n and m
 mho_means : (r n m : ℤ) → Exactly (mho r n m ≡ true) ((pos 0 <ℤ m) × ((pos 1000000 *ℤ n) ≤ℤ (r *ℤ m)))
 unfolding mho
-mho_means r n m = (by_sign (lt_z (pos 0) m) refl, λ h. rw (true_lt h.0) (true_le h.1))
-  where
-    by_sign : (b : Bool) → lt_z (pos 0) m ≡ b → cond b (le_z (pos 1000000 *ℤ n) (r *ℤ m)) false ≡ true → (pos 0 <ℤ m) × ((pos 1000000 *ℤ n) ≤ℤ (r *ℤ m))
-    by_sign true t e = (lt_true t, le_true e)
-    by_sign false t e = absurd (true≢false (sym e))
+mho_means r n m = (λ e. grind (arith, ints), λ h. grind (arith, ints))
 
 pub mho_rule : MhoRule
 unfolding asserts

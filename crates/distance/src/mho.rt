@@ -60,7 +60,7 @@ pub fn residual(i: Phases<Phasor>) -> Phasor
     requires { AllInside phasor_size i }
     ensures { (result ≡ residual i) × Inside residual_size result }
 {
-    plane::plus(plane::plus(i.a, i.b), i.c)
+    i.a + i.b + i.c
 }
 
 // The k product, rounded.
@@ -77,11 +77,7 @@ fn ground_loop(v: Phasor, i: Phasor, k: Phasor, p: Phasor) -> Loop
     requires { Inside phasor_size v × Inside phasor_size i × Inside k_product_size k × Inside polarising_size p }
     ensures { (result ≡ ground_loop v i k p) × LoopInside result }
 {
-    Loop {
-        v,
-        i: plane::plus(i, k),
-        vp: p,
-    }
+    Loop { v, i: i + k, vp: p }
 }
 
 // The loop of phases x and y, from the voltages and the currents of both, and P.
@@ -91,8 +87,8 @@ fn phase_loop(vx: Phasor, vy: Phasor, ix: Phasor, iy: Phasor, p: Phasor) -> Loop
     ensures { (result ≡ phase_loop vx vy ix iy p) × LoopInside result }
 {
     Loop {
-        v: plane::minus(vx, vy),
-        i: plane::minus(ix, iy),
+        v: vx - vy,
+        i: ix - iy,
         vp: plane::minus_j(p),
     }
 }

@@ -37,13 +37,6 @@ inside_total f b (suc n) h =
     let more : b * n + b ≤ b * suc n = omega arith in
     inside_wider (inside_plus (inside_total f b n (λ k l. h k (omega arith))) (h n (omega arith))) (le→leb _ _ more)
 
--- a phase of a grid at six ends or fewer, each within 42000
-pub phase_inside :
-    (g : List (List Phasor)) (p ends n : ℕ) → GridInside g ends → p < 3 → n ≤ ends → ends ≤ 6 → Inside 252000 (total (cell g p) n)
-phase_inside g p ends n h l few six =
-    let most : 42000 * n ≤ 252000 = omega arith in
-    inside_wider (inside_total (cell g p) 42000 n (λ e k. h p e l (omega arith))) (le→leb _ _ most)
-
 -- a phase of a filled grid has the sum of its currents in the window
 pub filled_total :
     {rate : Rate} {w : List ℤ} {ends : ℕ} {g : List (List Phasor)} → Filled rate w ends g → (p : ℕ) → p < 3 →

@@ -11,8 +11,8 @@ ghost use Rattle.phasors.specs.Grid.{Filled, local_of, voltages_of};
 
 use plane::{Phases, Phasor};
 
-// The cosines at scale 16384. A static, since a constant table that is indexed is built anew at each read.
-static COSINES: [i16; 16] = [
+// The cosines at scale 16384.
+const COSINES: [i16; 16] = [
     16384, 15137, 11585, 6270, 0, -6270, -11585, -15137, -16384, -15137, -11585, -6270, 0, 6270,
     11585, 15137,
 ];
@@ -74,8 +74,8 @@ pub fn voltages(window: &[i16], ends: usize) -> Phases<Phasor>
     }
 }
 
-// The currents of all ends, phase by end. The library takes no memory at run time, so the grid has room for as many ends as a line can have,
-// and `ends` says how many of them are filled.
+// The currents of all ends, phase by end. The library takes no memory at run time, so the grid has room for as many ends as a line can
+// have, and `ends` says how many of them are filled.
 pub fn currents(window: &[i16], ends: usize) -> [[Phasor; 6]; 3]
     requires { (ends ≤ 6) × (window_length ends ≤ length window.now) }
     ensures { Filled sixteen window.now ends result × GridInside result ends }

@@ -6,7 +6,10 @@ ghost use Rattle.whole.specs.Sizes.{Within};
 ghost use Rattle.plane.specs.Plane.{plus, minus, times, scaled, rounded, dot, cross, squared, squared_magnitude, minus_j};
 ghost use Rattle.plane.specs.Sizes.{Inside, Multiply};
 
-// A voltage or a current in counts, or any other complex number.
+use std::ops::{Add, Sub};
+
+// A voltage or a current in counts, or any other complex number. How large it is stands in each contract, and not in the type: the
+// definitions work with complex numbers of any size.
 #[derive(Clone, Copy)]
 pub struct Phasor {
     pub re: i64,
@@ -22,25 +25,35 @@ pub struct Phases<T> {
 }
 
 // p + q.
-#[tactic(auto, unfolding(crate::specs::Plane::plus))]
-pub fn plus(p: Phasor, q: Phasor) -> Phasor
-    requires { Inside (2 ^ 61) p × Inside (2 ^ 61) q }
-    ensures { result ≡ plus p q }
-{
-    let re = p.re + q.re;
-    let im = p.im + q.im;
-    Phasor { re, im }
+impl Add for Phasor {
+    type Output = Phasor;
+
+    ghost can_add = { λ p q. Inside (2 ^ 61) p × Inside (2 ^ 61) q };
+
+    ghost add_gives = { λ p q r. r ≡ plus p q };
+
+    #[tactic(auto, unfolding(crate::specs::Plane::plus))]
+    fn add(self, q: Phasor) -> Phasor {
+        let re = self.re + q.re;
+        let im = self.im + q.im;
+        Phasor { re, im }
+    }
 }
 
 // p - q.
-#[tactic(auto, unfolding(crate::specs::Plane::minus))]
-pub fn minus(p: Phasor, q: Phasor) -> Phasor
-    requires { Inside (2 ^ 61) p × Inside (2 ^ 61) q }
-    ensures { result ≡ minus p q }
-{
-    let re = p.re - q.re;
-    let im = p.im - q.im;
-    Phasor { re, im }
+impl Sub for Phasor {
+    type Output = Phasor;
+
+    ghost can_sub = { λ p q. Inside (2 ^ 61) p × Inside (2 ^ 61) q };
+
+    ghost sub_gives = { λ p q r. r ≡ minus p q };
+
+    #[tactic(auto, unfolding(crate::specs::Plane::minus))]
+    fn sub(self, q: Phasor) -> Phasor {
+        let re = self.re - q.re;
+        let im = self.im - q.im;
+        Phasor { re, im }
+    }
 }
 
 // p q.

@@ -40,7 +40,7 @@ fn below_top(r: i64, zi: Phasor, v: Phasor, ir: Phasor) -> bool
     requires { Within most_reach r × Inside drop_size zi × Inside loop_voltage_size v × Inside residual_size ir }
     ensures { result ≡ below_top r zi v ir }
 {
-    let short = plane::minus(plane::scaled(r, zi), plane::scaled(REACH_SCALE, v));
+    let short = plane::scaled(r, zi) - plane::scaled(REACH_SCALE, v);
     0 < plane::cross(short, ir)
 }
 

@@ -8,8 +8,8 @@ use Rattle.plane.proofs.Steps.{multiply}
 use Rattle.quadrilateral.specs.Quadrilateral.{reactance, below_top}
 use Rattle.quadrilateral.proofs.below_top.Goals as goal
 
-pub minus-short-requires : goal.minus-short-requires
-minus-short-requires c =
+pub sub-short-requires : goal.sub-short-requires
+sub-short-requires c =
     let h = c.requires in
     rw (c.scaled.ensures, c.scaled-2.ensures, to_z-of_z c.ranges.r)
     (inside_wider (inside_scaled h.0 h.1) tt, inside_wider (inside_scaled (lit _) h.2) tt)
@@ -17,10 +17,10 @@ minus-short-requires c =
 pub cross-requires : goal.cross-requires
 cross-requires c =
     let h = c.requires in
-    rw (c.minus-short.ensures, c.scaled.ensures, c.scaled-2.ensures, to_z-of_z c.ranges.r)
+    rw (c.sub-short.ensures, c.scaled.ensures, c.scaled-2.ensures, to_z-of_z c.ranges.r)
     (multiply (inside_minus (inside_scaled h.0 h.1) (inside_scaled (lit _) h.2)) h.3 tt tt tt)
 
 pub returns : goal.returns
 unfolding below_top reactance
 returns c =
-    rw (back c.cross.result c.cross.type_inv, c.cross.ensures, c.minus-short.ensures, c.scaled.ensures, c.scaled-2.ensures, to_z-of_z c.ranges.r) refl
+    rw (back c.cross.result c.cross.type_inv, c.cross.ensures, c.sub-short.ensures, c.scaled.ensures, c.scaled-2.ensures, to_z-of_z c.ranges.r) refl
