@@ -1,18 +1,19 @@
 -- The statements of specs/Laws.antt, proved.
 use Prim.Native.Nat.{ℕ, ◌*◌, ◌≤◌}
-use mathlib.Core.Path.{◌≡◌, refl, sym, ap, ◌∙◌}
-use mathlib.Core.Bool.{Bool, true, false, not, true≢false, ◌&&◌, and-eq-true_iff}
+use mathlib.Core.Path.{◌≡◌, sym, ap, ◌∙◌}
+use mathlib.Core.Bool.{not, true≢false, ◌&&◌, and-eq-true_iff}
 use mathlib.Core.List.{[], ◌∷◌}
 use native.Mathlib.Nat.{mul-le-mul, mul-le-mul_right, le_of_mul-le-mul_right, mul_assoc, le_refl}
 use native.Mathlib.Omega.{arith}
 use borrow.Author.Tests.{leb-true, le-leb, ne_eqb}
+use Rattle.std.proofs.lemmas.Int.{ints, by_lt_z}
 use lib.Dec.{eqb, leb}
 use lib.IntN.{ℤ, pos, negsuc, nat_abs, ◌-ℤ◌, ◌*ℤ◌}
-use lib.Signed.{◌≤ℤ◌, ◌<ℤ◌, lt_z}
+use lib.Signed.{◌<ℤ◌, lt_z}
 use Rattle.whole.specs.Exactly.{Exactly}
 use Rattle.whole.proofs.Certificate.{quo, ring!, lt!, false!, g_le, g_lt, g_eq, ◌⊞◌, ◌⊠◌}
 use Rattle.whole.proofs.Size.{abs_mul}
-use Rattle.whole.proofs.Machine.{lt_true, lt_false, true_lt}
+use Rattle.whole.proofs.Machine.{lt_true, true_lt}
 use Rattle.plane.specs.declared.Phasor.{Phasor}
 use Rattle.plane.specs.Plane.{plus, minus, times, scaled, cross}
 use Rattle.plane.proofs.Laws.{cross_zero}
@@ -21,8 +22,7 @@ use Rattle.quadrilateral.specs.Laws.{QuadrilateralRule, NoResidual, LargerResist
 
 -- a number of size 0 is 0
 no_size : (z : ℤ) → nat_abs z ≡ 0 → z ≡ pos 0
-no_size (pos n) e = ap pos e
-no_size (negsuc n) e = absurd (omega arith)
+no_size z e = omega (arith, ints)
 
 pub quadrilateral_rule : QuadrilateralRule
 unfolding sees below_top between_sides
@@ -76,13 +76,9 @@ module _ (r m f : ℤ) (zi v ir : Phasor) (e : scaled (pos 1000000) v ≡ plus (
 -- with q below zero: the top
 ahead_of_line : (m r q : ℤ) → q <ℤ pos 0 → Exactly (pos 0 <ℤ ((m -ℤ r) *ℤ q)) (m <ℤ r)
 ahead_of_line m r q b = (
-  λ t. by_order (lt_z m r) refl t,
+  λ t. by_lt_z m r (λ h. h) (λ least. absurd (false! (m ∷ r ∷ q ∷ []) (g_lt t ⊞ g_le least ⊠ g_lt b ⊞ g_le least) (search quo depth 40) tt)),
   λ h. lt! (m ∷ r ∷ q ∷ []) (g_lt h ⊠ g_lt b ⊞ g_lt h ⊞ g_lt b) (search quo depth 40) tt,
 )
-  where
-    by_order : (x : Bool) → lt_z m r ≡ x → pos 0 <ℤ ((m -ℤ r) *ℤ q) → m <ℤ r
-    by_order true e t = lt_true e
-    by_order false e t = let least : r ≤ℤ m = lt_false e in absurd (false! (m ∷ r ∷ q ∷ []) (g_lt t ⊞ g_le least ⊠ g_lt b ⊞ g_le least) (search quo depth 40) tt)
 
 -- and the sides, over |n|, |f| and |q|
 within_sides : (R n f q : ℕ) → 1000000 * n ≡ f * q → (q ≡ 0 → ⊥) → Exactly (10 * n ≤ R * q) (f ≤ 100000 * R)
