@@ -4,17 +4,16 @@
 use mathlib.Core.Path.{◌≡◌, refl, sym, ap, ◌∙◌}
 use mathlib.Core.Logic.{◌⊎◌, inl, inr, ⊎_elim}
 use mathlib.Core.List.{List}
-use mathlib.Core.Bool.{Bool, true, false, cond}
+use mathlib.Core.Bool.{true, cond}
 use Rattle.std.specs.Prelude.{Ok, Err}
 use Rattle.answers.specs.declared.Refusal.TheVariants.{NothingPending}
-use Rattle.answers.specs.Answers.{Answer, given_back, is_done}
-use Rattle.answers.proofs.Numbers.{zero_is, done_zero, refused_not_zero, not_zero_refused}
+use Rattle.answers.specs.Answers.{Answer, given_back, is_done, if_done}
+use Rattle.answers.proofs.Numbers.{zero_is, refused_not_zero, not_zero_refused}
 use Rattle.lent.proofs.Differences.{difference_same}
 use Rattle.entry.specs.Pair.{Pair, nothing}
 use Rattle.entry.specs.Entry.{propose_answer, standing, confirm_answer}
 use Rattle.entry.specs.Log.{Entry, propose, confirm, Log, ◌▷◌, Leads, from_fresh, by_propose, by_confirm, PutsNothing, SaidTwice, twice, later}
 use Rattle.entry.proofs.Done.{FullPair, proposed_sized, confirmed_sized, confirm_done, stored_done}
-use native.Mathlib.Omega.{arith}
 use Prim.Native.Nat.{ℕ}
 
 module _ (verdict : List ℕ → Answer) (blank : verdict nothing ≡ Ok tt → ⊥) where
@@ -29,11 +28,11 @@ module _ (verdict : List ℕ → Answer) (blank : verdict nothing ≡ Ok tt → 
 
   pending_said : {l : Log} {p : Pair} → Leads verdict l p → verdict p.pending ≡ Ok tt → Said p.pending l
   pending_said from_fresh g = absurd (blank g)
-  pending_said (by_propose {l} d e) g = by_test (is_done (propose_answer (verdict e) e)) refl g
+  pending_said (by_propose {l} d e) g = by_answer (propose_answer (verdict e) e) g
     where
-      by_test : (b : Bool) → is_done (propose_answer (verdict e) e) ≡ b → verdict (cond b e nothing) ≡ Ok tt → Said (cond b e nothing) (l ▷ propose e (given_back (propose_answer (verdict e) e)))
-      by_test true t g = rw (done_zero (propose_answer (verdict e) e) t) (last l)
-      by_test false t g = absurd (blank g)
+      by_answer : (a : Answer) → verdict (if_done a e nothing) ≡ Ok tt → Said (if_done a e nothing) (l ▷ propose e (given_back a))
+      by_answer (Ok done) g = last l
+      by_answer (Err refusal) g = absurd (blank g)
   pending_said (by_confirm d e) g = absurd (blank g)
 
   -- a confirmation that is done is of the pending record, which is good
@@ -48,29 +47,23 @@ module _ (verdict : List ℕ → Answer) (blank : verdict nothing ≡ Ok tt → 
   pub in_force_said_twice : {l : Log} {p : Pair} → Leads verdict l p → verdict p.force ≡ Ok tt → SaidTwice p.force l
   in_force_said_twice from_fresh g = absurd (blank g)
   in_force_said_twice (by_propose d e) g = later (in_force_said_twice d g) tt
-  in_force_said_twice (by_confirm {l} {p} d e) g = by_test (is_done (confirm_answer (standing (verdict p.pending)) p e)) refl (λ k. in_force_said_twice d k) g
+  in_force_said_twice (by_confirm {l} {p} d e) g = by_answer (confirm_answer (standing (verdict p.pending)) p e) (confirmed_good d e) (in_force_said_twice d) g
     where
-      by_test : (b : Bool) → is_done (confirm_answer (standing (verdict p.pending)) p e) ≡ b → (verdict p.force ≡ Ok tt → SaidTwice p.force l) → verdict (cond b e p.force) ≡ Ok tt → SaidTwice (cond b e p.force) (l ▷ confirm e (given_back (confirm_answer (standing (verdict p.pending)) p e)))
-      by_test true t before g =
-          let k = confirmed_good d e t in
-          rw (done_zero (confirm_answer (standing (verdict p.pending)) p e) t) (said_twice (rw k.0 at (pending_said d k.1)))
-      by_test false t before g = later (before g) (refused_not_zero (confirm_answer (standing (verdict p.pending)) p e) t)
+      by_answer :
+          (a : Answer) → (is_done a ≡ true → (p.pending ≡ e) × (verdict p.pending ≡ Ok tt)) → (verdict p.force ≡ Ok tt → SaidTwice p.force l) →
+          verdict (if_done a e p.force) ≡ Ok tt → SaidTwice (if_done a e p.force) (l ▷ confirm e (given_back a))
+      by_answer (Ok done) good before g = let k = good refl in said_twice (rw k.0 at (pending_said d k.1))
+      by_answer (Err refusal) good before g = later (before g) (refused_not_zero (Err refusal) refl)
 
   -- where a log shows a record said twice, its last entry is the confirmation, or puts nothing in force
   last_entry : {r : List ℕ} {l : Log} {x : Entry} → SaidTwice r (l ▷ x) → (x ≡ confirm r 0) ⊎ (SaidTwice r l × PutsNothing x)
   last_entry (twice l) = inl refl
   last_entry (later t k) = inr (t, k)
 
-  never_both : (e r : List ℕ) (n : ℕ) → propose e n ≡ confirm r 0 → ⊥
-  never_both e r n z = let k : ◌≡◌ {A = ℕ} 0 1 = cc in omega arith
-
-  same_entry : (e r : List ℕ) (n : ℕ) → confirm e n ≡ confirm r 0 → (e ≡ r) × (n ≡ 0)
-  same_entry e r n z = (cc, cc)
-
   pub said_twice_in_force : {r : List ℕ} {l : Log} {p : Pair} → Leads verdict l p → SaidTwice r l → (p.force ≡ r) × (verdict r ≡ Ok tt)
   said_twice_in_force from_fresh t = elim t [ ]
   said_twice_in_force (by_propose d e) t =
-      ⊎_elim (λ z. absurd (never_both _ _ _ z)) (λ k. said_twice_in_force d k.0) (last_entry t)
+      ⊎_elim (λ z. absurd cc) (λ k. said_twice_in_force d k.0) (last_entry t)
   said_twice_in_force {r} (by_confirm {l} {p} d e) t = ⊎_elim now (λ k. before k.1 (said_twice_in_force d k.0)) (last_entry t)
     where
       a : Answer
@@ -78,10 +71,11 @@ module _ (verdict : List ℕ → Answer) (blank : verdict nothing ≡ Ok tt → 
 
       now : confirm e (given_back a) ≡ confirm r 0 → (cond (is_done a) e p.force ≡ r) × (verdict r ≡ Ok tt)
       now z =
-          let k = same_entry e r (given_back a) z in
-          let done = ap is_done (zero_is a k.1) in
+          let same : e ≡ r = cc in
+          let zero : given_back a ≡ 0 = cc in
+          let done = ap is_done (zero_is a zero) in
           let g = confirmed_good d e done in
-          (rw done k.0, rw (sym k.0, sym g.0) g.1)
+          (rw done same, rw (sym same, sym g.0) g.1)
 
       before : (given_back a ≡ 0 → ⊥) → (p.force ≡ r) × (verdict r ≡ Ok tt) → (cond (is_done a) e p.force ≡ r) × (verdict r ≡ Ok tt)
       before k so = rw (not_zero_refused a k) so

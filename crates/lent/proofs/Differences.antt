@@ -1,4 +1,4 @@
--- What a comparison's finding means: a difference lies inside and is the first; no difference is equality.
+-- What a comparison finds: the first difference, if there is one; no difference is equality.
 use Prim.Native.Nat.{ℕ, zero, suc, ◌+◌, ◌-◌, ◌≤◌}
 use mathlib.Core.Path.{◌≡◌, refl, ap, ap₂, ◌∙◌}
 use mathlib.Core.List.{List, [], ◌∷◌}
@@ -8,6 +8,7 @@ use native.Mathlib.Omega.{arith}
 use borrow.Author.Tests.{eq-eqb, ne_eqb, eqb-true, eqb-false}
 use lib.ListN.{length, take}
 use lib.Dec.{eqb}
+use Rattle.std.proofs.lemmas.Bool.Decides.{nat_tests}
 use Rattle.lent.specs.Lent.{differ_from, first_difference, FirstAt}
 use Rattle.std.specs.Prelude.{Option, Some, None, ◌==◌}
 use Rattle.std.specs.List.{zip, position, position_from}
@@ -58,11 +59,7 @@ unfolding differ_from
 same_from j [] [] l e = refl
 same_from j [] (y ∷ ys) l e = absurd (omega arith)
 same_from j (x ∷ xs) [] l e = absurd (omega arith)
-same_from j (x ∷ xs) (y ∷ ys) l e = by_test (eqb x y) refl (same_from (suc j) xs ys (omega arith)) e
-  where
-    by_test : (b : Bool) → eqb x y ≡ b → (differ_from (suc j) xs ys ≡ None → xs ≡ ys) → cond b (differ_from (suc j) xs ys) (Some j) ≡ None → x ∷ xs ≡ y ∷ ys
-    by_test true t same e = ap₂ ◌∷◌ (eqb-true x y t) (same e)
-    by_test false t same e = absurd cc
+same_from j (x ∷ xs) (y ∷ ys) l e = grind (arith, nat_tests, same_from (suc j) xs ys (omega arith))
 
 -- two lists of one length with no difference are the same list
 pub difference_same : (xs ys : List ℕ) → length xs ≡ length ys → first_difference xs ys ≡ None → xs ≡ ys
@@ -87,13 +84,7 @@ found_from : (k : ℕ) (xs ys : List ℕ) → position_from differ k (zip xs ys)
 unfolding differ_from
 found_from k [] ys = refl
 found_from k (x ∷ xs) [] = refl
-found_from k (x ∷ xs) (y ∷ ys) = by_test (eqb x y) (rw (add-one k) (found_from (suc k) xs ys))
-  where
-    by_test :
-        (b : Bool) → position_from differ (k + 1) (zip xs ys) ≡ differ_from (suc k) xs ys →
-        cond (not b) (Some k) (position_from differ (k + 1) (zip xs ys)) ≡ cond b (differ_from (suc k) xs ys) (Some k)
-    by_test true rest = rest
-    by_test false rest = refl
+found_from k (x ∷ xs) (y ∷ ys) = rw (add-one k, found_from (suc k) xs ys) (grind (arith, nat_tests))
 
 -- the first pair of different numbers stands where the lists first differ
 pub difference_found : (xs ys : List ℕ) {r : Option ℕ} → r ≡ position differ (zip xs ys) → r ≡ first_difference xs ys
