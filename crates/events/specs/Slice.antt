@@ -1,5 +1,5 @@
 -- Document 02, CR 5: how a reader lies in a lent slice of one fixed length, and what each call leaves there. Any bytes are a defined reader.
-use Rattle.std.specs.Prelude.{ℕ, ◌+◌, ◌*◌, ◌≡◌, List, [], ◌∷◌, ◌++◌, Bool, cond, not, ◌&&◌, eqb, leb, ltb, length, take, drop, set, get_or, replicate, Result, Ok, Err, true, false}
+use Rattle.std.specs.Prelude.{ℕ, ◌+◌, ◌*◌, ◌≡◌, List, [], ◌∷◌, ◌++◌, Bool, true, false, cond, not, ◌&&◌, eqb, leb, ltb, length, take, drop, set, get_or, replicate, Result, Ok, Err}
 use Rattle.answers.specs.declared.Refusal.{Refusal}
 use Rattle.answers.specs.declared.Refusal.TheVariants as refused
 use Rattle.answers.specs.Answers.{Answer}

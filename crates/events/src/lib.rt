@@ -122,7 +122,7 @@ pub fn open(reader: &mut [u8], ends: u64, status: u64) -> Answer
 }
 
 // At the end of a file: done between records; inside one a refusal, which the reader remembers.
-#[tactic(auto, using(crate::proofs::Standing::end_between, crate::proofs::Standing::end_inside))]
+#[tactic(auto, using(crate::proofs::Standing::end_between))]
 pub fn end(reader: &mut [u8]) -> Answer
     ensures { AtEnd reader.old result reader.new }
 {

@@ -76,7 +76,7 @@ module _ (sh : Shape) where
   kept : (bs : List ℕ) → Keeps bs
   unfolding bytewise together
   kept [] k hs [] f a = record { gs = []; heard = sym (append-nil hs); numbered = tt; bytes = refl }
-  kept [] k hs (x ∷ h) f a = cc
+  kept [] k hs (x ∷ h) f a = absurd cc
   kept (b ∷ bs) k hs h f a =
       let g : List ℕ = h ++ b ∷ [] in
       let snoc : h ++ b ∷ bs ≡ g ++ bs = sym (append_assoc h (b ∷ []) bs) in

@@ -73,14 +73,14 @@ swapped_more s i l =
 
 -- one turn of the loop: one channel more behind those that were written
 pub turned :
-    (d₀ d s : List ℕ) (at i : ℕ) → 2 * i + 1 < length s → at + (2 * i + 2) ≤ length d₀ → length d ≡ length d₀ → d ≡ over d₀ at (swapped (take (2 * i) s)) →
-    set (set d (at + 2 * i) (get_or s (2 * i + 1) 0)) (at + 2 * i + 1) (get_or s (2 * i) 0) ≡ over d₀ at (swapped (take (2 * (i + 1)) s))
-turned d₀ d s at i more room same e =
+    (d₀ d s : List ℕ) (at i : ℕ) {high low : ℕ} → 2 * i + 1 < length s → at + (2 * i + 2) ≤ length d₀ → length d ≡ length d₀ →
+    d ≡ over d₀ at (swapped (take (2 * i) s)) → high ≡ get_or s (2 * i + 1) 0 → low ≡ get_or s (2 * i) 0 →
+    set (set d (at + 2 * i) high) (at + 2 * i + 1) low ≡ over d₀ at (swapped (take (2 * (i + 1)) s))
+turned d₀ d s at i {high} {low} more room same e h l =
     let x : List ℕ = swapped (take (2 * i) s) in
-    let high : ℕ = get_or s (2 * i + 1) 0 in
-    let low : ℕ = get_or s (2 * i) 0 in
-    let l : length x ≡ 2 * i = swapped_length i (take (2 * i) s) (length-take-le (2 * i) s (omega arith)) in
+    let long : length x ≡ 2 * i = swapped_length i (take (2 * i) s) (length-take-le (2 * i) s (omega arith)) in
+    let pair : high ∷ low ∷ [] ≡ get_or s (2 * i + 1) 0 ∷ get_or s (2 * i) 0 ∷ [] = cc in
     over_two d (at + 2 * i) high low (omega arith) ∙
-    ap₂ (λ (t : List ℕ) (k : ℕ). over t (at + k) (high ∷ low ∷ [])) e (sym l) ∙
+    ap₂ (λ (t : List ℕ) (k : ℕ). over t (at + k) (high ∷ low ∷ [])) e (sym long) ∙
     over_over d₀ at x (omega arith) (high ∷ low ∷ []) ∙
-    ap (over d₀ at) (sym (swapped_more s i more))
+    ap (over d₀ at) (ap (λ (y : List ℕ). x ++ y) pair ∙ sym (swapped_more s i more))

@@ -1,9 +1,9 @@
 // A record of an event file (document 02, CR 5: binary data of C37.111-1999): its length, its numbers, and the writer.
 #![tactic(auto)]
 
-ghost use Rattle.std.specs.Prelude.{◌≡◌, ◌++◌, ◌+◌, ◌*◌, ◌<◌, ◌≤◌, length};
+ghost use Rattle.std.specs.Prelude.{◌≡◌, ◌+◌, ◌≤◌, length};
 ghost use Rattle.lent.specs.Lent.{over};
-ghost use Rattle.records.specs.Record.{word_at, four_bytes, swapped, good_ends, good_file, record_length, narrow};
+ghost use Rattle.records.specs.Record.{word_at, swapped, good_ends, good_file, record_length, narrow};
 ghost use Rattle.records.specs.Writer.{Wrote};
 
 use answers::{Answer, Refusal};

@@ -17,7 +17,7 @@ loop-i-preserved c =
     let n : ℕ = length s / 2 in
     let low = ap (λ (p : List (List ℕ)). get_or (get_or p l.i []) 0 0) e.front ∙ pair_byte n s l.i 0 (2 * l.i) (omega arith) (omega arith) (omega arith) in
     let high = ap (λ (p : List (List ℕ)). get_or (get_or p l.i []) 1 0) e.front ∙ pair_byte n s l.i 1 (2 * l.i + 1) (omega arith) (omega arith) (omega arith) in
-    rw (low, high) (turned c.args.dst.now l.dst s c.args.at l.i (omega arith) (omega arith) l.auto.dst l.invariant)
+    turned c.args.dst.now l.dst s c.args.at l.i (omega arith) (omega arith) l.auto.dst l.invariant high low
 
 pub returns : goal.returns
 returns c = c.loop-i.invariant ∙ ap (over c.args.dst.now c.args.at) (swapped_pairs c.loop-i.i c.args.src.now (omega arith) (omega arith))
