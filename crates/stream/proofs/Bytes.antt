@@ -1,6 +1,6 @@
 -- How numbers become bytes, one after another, and that nothing is lost on the way there or back: a number of 16 bits is two bytes.
-use Prim.Native.Nat.{ℕ, ◌+◌, ◌*◌, ◌/◌, ◌%◌, ◌-◌, ◌≤◌, ◌<◌}
-use mathlib.Core.Path.{◌≡◌, refl, sym, ap, ap₂, ◌∙◌}
+use Prim.Native.Nat.{ℕ, ◌+◌, ◌*◌, ◌/◌, ◌%◌, ◌-◌, ◌≤◌, ◌<◌, min}
+use mathlib.Core.Path.{◌≡◌, refl, ap, ap₂, ◌∙◌}
 use mathlib.Core.List.{List, [], ◌∷◌, ◌++◌}
 use mathlib.Core.Bool.{Bool, true, false, cond}
 use native.Mathlib.Numerals.{add-one}
@@ -9,16 +9,18 @@ use borrow.Author.Tests.{lt-ltb, le-ltb, ltb-true, ltb-false}
 use lib.Dec.{ltb}
 use lib.IntN.{ℤ, pos, negsuc, ◌-ℤ◌}
 use lib.ListN.{length, take, get_or}
-use lib.Seq.{take-suc, length-take-le}
+use lib.Seq.{get_or-take, take-suc, length-take-le}
+use Rattle.std.proofs.lemmas.List.{length-take}
 use mir.Syntax.{w16}
 use mir.Val.{SFits}
 use Rattle.std.specs.Int.{to_be_bytes, cast_unsigned}
 use Rattle.whole.specs.TwosComplement.{signed, unsigned}
 use Rattle.whole.proofs.TwosComplement.{from_32768, cast_unsigned_is}
 use Rattle.lent.specs.Lent.{over}
-use Rattle.lent.proofs.Over.{over_over, over_none}
+use Rattle.lent.proofs.Over.{over_over}
 use Rattle.samples.specs.Window.{numbers_of}
-use Rattle.stream.specs.Stored.{word, bytes_of, Sample}
+use Rattle.stream.specs.declared.Window.{Window}
+use Rattle.stream.specs.Stored.{word, bytes_of, stored_first, Sample}
 use Rattle.lent.specs.Bytes.{Every, Byte}
 
 -- what std's `to_be_bytes` gives, of a count and of a number
@@ -79,23 +81,19 @@ unfolding bytes_of numbers_of
 written_read [] b h = refl
 written_read (x ∷ xs) b h = ap₂ ◌∷◌ (rw (two_bytes (unsigned x)) (signed_unsigned x h.0)) (written_read xs b h.1)
 
--- the loop that writes numbers: before its first turn, and one turn
-pub put_none : (d : List ℕ) (at : ℕ) → d ≡ over d at (bytes_of [])
+-- a window written: its count, and one number more
+pub count_put : (d : List ℕ) (at : ℕ) (w : Window) → w.count < 65536 → over d at (to_be_bytes w16 w.count) ≡ over d at (stored_first 0 w)
 unfolding bytes_of
-put_none d at = over_none d at
+count_put d at w few = ap (over d at) (word_is w.count few)
 
-pub put_more :
-    (d s : List ℕ) (at : ℕ) (xs : List ℤ) (i : ℕ) (bytes : List ℕ) → at ≤ length d → i < length xs → s ≡ over d at (bytes_of (take i xs)) →
-    SFits w16 (get_or xs i (pos 0)) → bytes ≡ to_be_bytes w16 (cast_unsigned w16 (get_or xs i (pos 0))) →
-    over s (at + 2 * i) bytes ≡ over d at (bytes_of (take (i + 1) xs))
-put_more d s at xs i bytes room more e fits b =
-    let v : List ℕ = word (unsigned (get_or xs i (pos 0))) in
-    ap₂ (λ (l : List ℕ) (n : ℕ). over l (at + n) bytes) e (sym (bytes_first xs i (omega arith)))
-    ∙ rw (b, number_word (get_or xs i (pos 0)) fits) (over_over d at (bytes_of (take i xs)) room v)
-    ∙ ap (over d at) (sym (bytes_more xs i more))
-
--- a count written, and numbers right behind it
-pub put_counted :
-    (d : List ℕ) (at v : ℕ) (xs : List ℤ) → at ≤ length d → v < 65536 →
-    over (over d at (to_be_bytes w16 v)) (at + 2) (bytes_of xs) ≡ over d at (word v ++ bytes_of xs)
-put_counted d at v xs room few = rw (word_is v few) (over_over d at (word v) room (bytes_of xs))
+pub number_put :
+    (d s : List ℕ) (at k : ℕ) (w : Window) (i : ℕ) (bytes : List ℕ) → at ≤ length d → i < length (take k w.numbers) →
+    s ≡ over d at (stored_first i w) → SFits w16 (get_or (take k w.numbers) i (pos 0)) →
+    bytes ≡ to_be_bytes w16 (cast_unsigned w16 (get_or (take k w.numbers) i (pos 0))) →
+    over s (at + 2 + 2 * i) bytes ≡ over d at (stored_first (i + 1) w)
+number_put d s at k w i bytes room more e fits b =
+    let x : ℤ = get_or (take k w.numbers) i (pos 0) in
+    let few : length (take k w.numbers) ≡ min k (length w.numbers) = length-take k w.numbers in
+    let there : at + 2 + 2 * i ≡ at + length (stored_first i w) = omega (arith, few, bytes_first w.numbers i (omega (arith, few))) in
+    rw (b, number_word x fits, e, there, bytes_more w.numbers i (omega (arith, few)), get_or-take k w.numbers i (pos 0) (omega (arith, few)))
+    (over_over d at (stored_first i w) room (word (unsigned (get_or w.numbers i (pos 0)))))

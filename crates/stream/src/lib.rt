@@ -6,7 +6,7 @@ ghost use Rattle.std.specs.Prelude.{◌≡◌, ◌+◌, ◌*◌, ◌≤◌, leng
 ghost use Rattle.lent.specs.Lent.{over};
 ghost use Rattle.samples.specs.Window.{frames, window_length};
 ghost use Rattle.stream.specs.Window.{shifted, counted, moved_on, none, HasRoom};
-ghost use Rattle.stream.specs.Stored.{stored_length, window_at, bytes_of, stored_first, stored, kept};
+ghost use Rattle.stream.specs.Stored.{stored_length, window_at, stored_first, stored, kept};
 
 use samples::{FRAMES, LONGEST};
 
@@ -65,14 +65,18 @@ impl Window {
         *self = self.with_frame(frame);
     }
 
-    // The count and the first k numbers, written to where the window lies in a relay's state.
-    #[tactic(auto, using(crate::proofs::Bytes::put_counted))]
+    // The count and the first k numbers, written to where the window lies in a relay's state. The numbers are copied first: read where they
+    // stand, they cost a second copy of the window (`keep` at three ends: 904 instructions for 799).
+    #[tactic(auto, using(crate::proofs::Bytes::count_put, crate::proofs::Bytes::number_put))]
     fn put_first(self, k: usize, state: &mut [u8], at: usize)
         requires { (k ≤ window_length 6) × (at + 2 + 2 * k ≤ length state.old) }
         ensures { state.new ≡ over state.old at (stored_first k self) }
     {
+        let numbers = self.numbers;
         lent::put(state, at, &self.count.to_be_bytes());
-        put_numbers(&self.numbers[..k], state, at + 2);
+        for (i, x) in numbers[..k].iter().enumerate() {
+            lent::put(state, at + 2 + 2 * i, &x.to_be_bytes());
+        }
     }
 
     // A whole window written there.
@@ -104,17 +108,6 @@ fn counted(count: u16) -> u16
     ensures { result ≡ counted frames count }
 {
     if count < FULL { count + 1 } else { FULL }
-}
-
-// Numbers written big-endian, one after another.
-#[tactic(auto, using(crate::proofs::Bytes::put_none, crate::proofs::Bytes::put_more))]
-fn put_numbers(numbers: &[i16], state: &mut [u8], at: usize)
-    requires { at + 2 * length numbers.now ≤ length state.old }
-    ensures { state.new ≡ over state.old at (bytes_of numbers.now) }
-{
-    for (i, x) in numbers.iter().enumerate() {
-        lent::put(state, at + 2 * i, &x.to_be_bytes());
-    }
 }
 
 // The window in a relay's state emptied: what a confirmation does.
