@@ -1,5 +1,5 @@
--- Writing a line, on plain lists: with the words from i on and the numbers `left` still to come, what is printed of them right behind what is
--- written leaves the whole line, and there is room for it.
+-- Writing a line, on plain lists: with the words from i on and the numbers `left` still to come, what is printed of them, right behind what
+-- is written, leaves the whole line, and there is room for it.
 use Prim.Native.Nat.{ℕ, ◌+◌, ◌*◌, ◌<◌, ◌≤◌}
 use mathlib.Core.Path.{◌≡◌, refl, ◌∙◌, ap}
 use mathlib.Core.Logic.{◌⊎◌, ⊎_elim}
@@ -47,18 +47,22 @@ module _ {lent line out words left : List ℕ} {at i : ℕ} (so : SoFar lent lin
         room = omega (arith, rw (rest, e) at so.room);
       }
 
-  pub word_turn : (get_or words i 0 ≡ mark → ⊥) ⊎ (length left ≡ 0) → SoFar lent line (set out at (get_or words i 0)) words left (at + 1) (i + 1)
+  pub word_turn :
+      (get_or words i 0 ≡ mark → ⊥) ⊎ (length left ≡ 0) →
+      SoFar lent line (set out at (get_or words i 0)) words left (at + 1) (i + 1)
   word_turn o =
       let room = rw rest at so.room in
       let is = ap (λ l. printed l left) rest ∙ of_word _ _ left o in
+      let one = get_or words i 0 ∷ [] in
       record {
-        text = rw (sets-eq (get_or words i 0 ∷ []) out at (omega arith), over_over out at (get_or words i 0 ∷ []) (omega arith) _) (rw is at so.text);
+        text = rw (sets-eq one out at (omega arith), over_over out at one (omega arith) _) (rw is at so.text);
         ends = omega (arith, rw is at so.ends);
         room = omega (arith, length-set out at (get_or words i 0));
       }
 
 -- behind the last word the line is written
-pub all_written : {lent line out words left : List ℕ} {at i : ℕ} → SoFar lent line out words left at i → length words ≤ i → Written lent 0 line at out
+pub all_written :
+    {lent line out words left : List ℕ} {at i : ℕ} → SoFar lent line out words left at i → length words ≤ i → Written lent 0 line at out
 unfolding printed
 all_written {out = out} {words} {at = at} so e =
     let last = drop_of_length-le words e in

@@ -1,91 +1,54 @@
--- Windows up to the end of the input, on plain lists. Before the window that is numbered n: what was printed and the lines that are still to
--- come are, together, what was printed before the first window and all the lines.
-use Rattle.std.proofs.Common.{◌≡◌, ℕ, suc, ◌+◌, ◌-◌, ◌^◌, ◌<◌, ◌≤◌, Bool, true, false, not, List, [], ◌++◌, Option, None, Some, IfSome, refl, append_assoc, append-nil, arith, length, take, drop, eqb}
-use Rattle.std.specs.Prelude.{⊤}
+-- Windows up to the end of the input, on plain lists.
+use Rattle.std.proofs.Common.{◌≡◌, refl, ℕ, suc, ◌+◌, ◌-◌, ◌^◌, ◌<◌, ◌≤◌, Bool, true, false, not, List, [], ◌++◌, Option, IfSome, arith, length, take, drop, eqb}
 use Rattle.std.specs.Io.KnownBytes.{Appends}
 use Rattle.gorsepetal.specs.Calls.{window_bytes}
 use Rattle.session.specs.Session.{Windowed, line_of, lines_from, lines}
+use Rattle.session.proofs.Behind.{Whole, behind, ended}
 
-abbrev pub SoFar : (known left : Option (List ℕ)) (s : List ℕ) (n : ℕ) (printed printed' : Option (List ℕ)) → Type 0
-SoFar None left s n p q = ⊤
-SoFar (Some xs) None s n p q = ⊥
-SoFar (Some xs) (Some ys) s n None q = ⊤
-SoFar (Some xs) (Some ys) s n (Some a) None = ⊥
-SoFar (Some xs) (Some ys) s n (Some a) (Some b) = a ++ lines s xs ≡ b ++ lines_from (2 ^ 64 - 1 - n) s ys n
-
-pub none_yet : (known : Option (List ℕ)) (s : List ℕ) (printed : Option (List ℕ)) → SoFar known known s 1 printed printed
-unfolding lines
-none_yet None s p = tt
-none_yet (Some xs) s None = tt
-none_yet (Some xs) s (Some a) = refl
-
-module _ (s ys : List ℕ) (n : ℕ) where
-  went_on : (t : ℕ) → eqb (length (take (window_bytes s) ys)) 0 ≡ false → lines_from (suc t) s ys n ≡ line_of s (take (window_bytes s) ys) n ++ lines_from t s (drop (window_bytes s) ys) (n + 1)
-  unfolding lines_from
-  went_on t e = rw e
-
-  at_end : (t : ℕ) → eqb (length (take (window_bytes s) ys)) 0 ≡ true → lines_from (suc t) s ys n ≡ []
-  unfolding lines_from
-  at_end t e = rw e
-
-  at_limit : lines_from 0 s ys n ≡ []
-  unfolding lines_from
-  at_limit = refl
-
-no_more : (b : Bool) → false ≡ not b → b ≡ true
-no_more true e = refl
-no_more false e = e
+-- the lines from the window that is numbered n on
+unfoldable pub from : (s : List ℕ) (n : ℕ) (xs : List ℕ) → List ℕ
+from s n xs = lines_from (2 ^ 64 - 1 - n) s xs n
 
 some_more : (b : Bool) → true ≡ not b → b ≡ false
 some_more true e = e
 some_more false e = refl
 
--- one window
-pub turn :
-    (known left left' : Option (List ℕ)) (s : List ℕ) (n : ℕ) (p q q' : Option (List ℕ)) →
-    SoFar known left s n p q → n < 2 ^ 64 - 1 → Windowed left left' s n q q' true → SoFar known left' s (n + 1) p q'
-turn None left left' s n p q q' so h w = tt
-turn (Some xs) None left' s n p q q' so h w = absurd so
-turn (Some xs) (Some ys) None s n p q q' so h w = absurd w.taken
-turn (Some xs) (Some ys) (Some zs) s n None q q' so h w = tt
-turn (Some xs) (Some ys) (Some zs) s n (Some a) None q' so h w = absurd so
-turn (Some xs) (Some ys) (Some zs) s n (Some a) (Some b) None so h w = absurd w.line
-turn (Some xs) (Some ys) (Some zs) s n (Some a) (Some b) (Some e) so h w =
-    let t = 2 ^ 64 - 1 - (n + 1) in
-    let next : 2 ^ 64 - 1 - n ≡ suc t = omega arith in
-    let taken : (w.w ≡ take (window_bytes s) ys) × (zs ≡ drop (window_bytes s) ys) = w.taken in
-    let line : e ≡ b ++ line_of s w.w n = w.line in
-    let more = went_on s ys n t (rw taken.0 at (some_more (eqb (length w.w) 0) w.went_on)) in
-    let joined = append_assoc b (line_of s (take (window_bytes s) ys) n) (lines_from t s (drop (window_bytes s) ys) (n + 1)) in
-    cc
+no_more : (b : Bool) → false ≡ not b → b ≡ true
+no_more true e = refl
+no_more false e = e
 
--- the input has ended
-pub at_last :
-    (known left left' : Option (List ℕ)) (s : List ℕ) (n : ℕ) (p q q' : Option (List ℕ)) →
-    SoFar known left s n p q → n < 2 ^ 64 - 1 → Windowed left left' s n q q' false → IfSome known (λ xs. Appends p q' (lines s xs))
-at_last None left left' s n p q q' so h w = tt
-at_last (Some xs) None left' s n p q q' so h w = absurd so
-at_last (Some xs) (Some ys) None s n p q q' so h w = absurd w.taken
-at_last (Some xs) (Some ys) (Some zs) s n None q q' so h w = tt
-at_last (Some xs) (Some ys) (Some zs) s n (Some a) None q' so h w = absurd so
-at_last (Some xs) (Some ys) (Some zs) s n (Some a) (Some b) None so h w = absurd w.line
-at_last (Some xs) (Some ys) (Some zs) s n (Some a) (Some b) (Some e) so h w =
-    let next : 2 ^ 64 - 1 - n ≡ suc (2 ^ 64 - 1 - (n + 1)) = omega arith in
-    let taken : (w.w ≡ take (window_bytes s) ys) × (zs ≡ drop (window_bytes s) ys) = w.taken in
-    let line : e ≡ b ++ [] = w.line in
-    let end = at_end s ys n (2 ^ 64 - 1 - (n + 1)) (rw taken.0 at (no_more (eqb (length w.w) 0) w.went_on)) in
-    cc
+module _ (s : List ℕ) (n : ℕ) (h : n < 2 ^ 64 - 1) (w xs : List ℕ) (taken : w ≡ take (window_bytes s) xs) where
+  next : 2 ^ 64 - 1 - n ≡ suc (2 ^ 64 - 1 - (n + 1))
+  next = omega arith
+
+  went_on : true ≡ not (eqb (length w) 0) → from s n xs ≡ line_of s w n ++ from s (n + 1) (drop (window_bytes s) xs)
+  unfolding from lines_from
+  went_on e = rw (next, ← taken, some_more (eqb (length w) 0) e)
+
+  at_end : false ≡ not (eqb (length w) 0) → from s n xs ≡ []
+  unfolding from lines_from
+  at_end e = rw (next, ← taken, no_more (eqb (length w) 0) e)
+
+-- Before the window that is numbered n, its line and those behind it make up all the lines.
+module _ {known left o o₁ : Option (List ℕ)} {s : List ℕ} {n : ℕ} (so : Whole (from s 1) known o (from s n) left o₁) where
+  -- one window
+  pub turn :
+      {left' o₁' : Option (List ℕ)} {more : Bool} → n < 2 ^ 64 - 1 → Windowed left left' s n o₁ o₁' more → more ≡ true →
+      Whole (from s 1) known o (from s (n + 1)) left' o₁'
+  turn h w e = let w = rw e at w in behind so (from s (n + 1)) _ w.w _ w.taken w.line (λ xs t. went_on s n h w.w xs t w.went_on)
+
+  -- the input has ended
+  pub at_last :
+      {left' o₁' : Option (List ℕ)} {more : Bool} → n < 2 ^ 64 - 1 → Windowed left left' s n o₁ o₁' more → more ≡ false →
+      IfSome known (λ xs. Appends o o₁' (lines s xs))
+  unfolding from lines
+  at_last h w e =
+      let w = rw e at w in
+      ended (behind so (λ ys. []) _ w.w [] w.taken w.line (λ xs t. at_end s n h w.w xs t w.went_on)) (λ ys. refl)
 
 -- the largest number is given to no window
 pub no_number :
-    (known left : Option (List ℕ)) (s : List ℕ) (n : ℕ) (p q : Option (List ℕ)) →
-    SoFar known left s n p q → 2 ^ 64 - 1 ≤ n → IfSome known (λ xs. Appends p q (lines s xs))
-no_number None left s n p q so h = tt
-no_number (Some xs) None s n p q so h = absurd so
-no_number (Some xs) (Some ys) s n None q so h = tt
-no_number (Some xs) (Some ys) s n (Some a) None so h = absurd so
-no_number (Some xs) (Some ys) s n (Some a) (Some b) so h =
-    let none : 2 ^ 64 - 1 - n ≡ 0 = omega arith in
-    let end = at_limit s ys n in
-    let same = append-nil b in
-    cc
+    {known left o o₁ : Option (List ℕ)} (s : List ℕ) {n : ℕ} → Whole (from s 1) known o (from s n) left o₁ → 2 ^ 64 - 1 ≤ n →
+    IfSome known (λ xs. Appends o o₁ (lines s xs))
+unfolding from lines lines_from
+no_number s {n} so h = let none : 2 ^ 64 - 1 - n ≡ 0 = omega arith in ended so (λ ys. rw none)

@@ -5,8 +5,7 @@
 ghost use Rattle.std.specs.Prelude.{◌≡◌, List, ℕ, ◌≤◌, [], IfOk, OnOk, OnErr, IfSome, eqb, length, take};
 ghost use Rattle.std.specs.Io.{ReadsAtMost};
 ghost use Rattle.std.specs.Io.KnownBytes.{Consumes, Appends};
-ghost use Rattle.gorsepetal.specs.Calls.{Proposed, Confirmed};
-ghost use Rattle.session.specs.Taken.{Takes};
+ghost use Rattle.session.specs.Taken.{Gives, Takes};
 ghost use Rattle.session.specs.Session.{entry_text, Windowed, lines, session_text};
 
 use gorsepetal::RECORD_LENGTH;
@@ -16,27 +15,21 @@ use std::io::{Read, Write};
 // Room for the bytes of any window.
 const WINDOW_ROOM: usize = 2 * gorsepetal::LONGEST_WINDOW_NUMBERS;
 
-// A first entry from the input. The number given back and the state are as propose promises for some entry e; for which, a contract
-// can say only where the input's bytes are known: the first 32 of them.
-fn propose<R: Read>(input: &mut R, state: &mut [u8]) -> io::Result<u64>
-    ensures ok { IfOk result (λ r. (e : List ℕ) × Proposed state.old e r state.new
+// An entry from the input, lent to a call, which is propose or confirm. The number given back and the state are as the call promises for
+// some entry e; for which, a contract can say only where the input's bytes are known: the first 32 of them.
+fn one_entry<R: Read, C: FnOnce(&mut [u8], &[u8]) -> u64>(
+    input: &mut R,
+    state: &mut [u8],
+    call: C,
+) -> io::Result<u64>
+    requires { C.IsAlwaysCallable call }
+    ensures ok { IfOk result (λ r. (e : List ℕ) × Gives C.FnOnce call state.old e r state.new
         × Takes (R.remaining input.old) (R.remaining input.new) RECORD_LENGTH e) }
     ensures err { OnErr result (state.new ≡ state.old) }
 {
     let mut entry = [0u8; RECORD_LENGTH];
     let n = read_full(input, &mut entry)?;
-    Ok(gorsepetal::gorsepetal_propose(state, &entry[..n]))
-}
-
-// A second entry from the input, likewise.
-fn confirm<R: Read>(input: &mut R, state: &mut [u8]) -> io::Result<u64>
-    ensures ok { IfOk result (λ r. (e : List ℕ) × Confirmed state.old e r state.new
-        × Takes (R.remaining input.old) (R.remaining input.new) RECORD_LENGTH e) }
-    ensures err { OnErr result (state.new ≡ state.old) }
-{
-    let mut entry = [0u8; RECORD_LENGTH];
-    let n = read_full(input, &mut entry)?;
-    Ok(gorsepetal::gorsepetal_confirm(state, &entry[..n]))
+    Ok(call(state, &entry[..n]))
 }
 
 // Whether an entry was accepted, by the number given back. The line of a refused one is printed; a good one prints nothing.
@@ -52,7 +45,8 @@ fn accepted<W: Write>(output: &mut W, r: u64) -> io::Result<bool>
     Ok(r == answers::DONE)
 }
 
-// Reads until the room is full or the input ends, and answers how many bytes came to its front.
+// Reads until the room is full or the input ends, and answers how many bytes came to its front. (`read_exact` of the standard library
+// fails where the input ends, and does not say how many came.)
 pub fn read_full<R: Read>(input: &mut R, room: &mut [u8]) -> io::Result<usize>
     ensures front { ReadsAtMost result room.new }
     ensures taken { IfOk result (λ n. Takes (R.remaining input.old) (R.remaining input.new) (length room.old) (take n room.new)) }
@@ -109,9 +103,10 @@ fn all_windows<R: Read, W: Write>(input: &mut R, output: &mut W, state: &[u8]) -
     ensures { OnOk result (IfSome (R.remaining input.old) (λ xs.
         Appends (W.contents output.old) (W.contents output.new) (lines state.now xs))) }
 {
-    let mut number = 1;
-    while number < u64::MAX && one_window(input, output, state, number)? {
-        number += 1;
+    for number in 1..u64::MAX {
+        if !one_window(input, output, state, number)? {
+            break;
+        }
     }
     Ok(())
 }
@@ -122,11 +117,11 @@ pub fn run<R: Read, W: Write>(input: &mut R, output: &mut W) -> io::Result<()>
         Appends (W.contents output.old) (W.contents output.new) (session_text xs))) }
 {
     let mut state = [0u8; gorsepetal::STATE_LENGTH];
-    let r = propose(input, &mut state)?;
+    let r = one_entry(input, &mut state, gorsepetal::gorsepetal_propose)?;
     if !accepted(output, r)? {
         return Ok(());
     }
-    let r = confirm(input, &mut state)?;
+    let r = one_entry(input, &mut state, gorsepetal::gorsepetal_confirm)?;
     if !accepted(output, r)? {
         return Ok(());
     }

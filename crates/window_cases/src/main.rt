@@ -23,13 +23,11 @@ fn case<R: Files, W: Write>(rt: &R, output: &mut W, name: &[u8]) -> io::Result<(
     session::run(&mut file, output)
 }
 
-// Each name of a list, one to a line.
+// Each name of a list, one to a line. What has no line end is no name.
 fn cases<R: Files, W: Write>(rt: &R, output: &mut W, names: &[u8]) -> io::Result<()> {
-    let mut from = 0;
-    for i in 0..names.len() {
-        if names[i] == b'\n' {
-            case(rt, output, &names[from..i])?;
-            from = i + 1;
+    for line in names.split_inclusive(|&byte| byte == b'\n') {
+        if let Some(name) = line.strip_suffix(b"\n") {
+            case(rt, output, name)?;
         }
     }
     Ok(())

@@ -7,7 +7,8 @@ use Rattle.report.proofs.put_line.Goals.{then-byte-eq35+in-Some, else-byte-eq35,
 
 -- where no number is left
 none_left :
-    {lent line out words : List ℕ} {at i : ℕ} {r : Option (Bor ℕ)} (left left' : Iter ℕ) → SoFar lent line out words (iter_rest left) at i → i < length words → iter_steps left r left' → r ≡ None →
+    {lent line out words : List ℕ} {at i : ℕ} {r : Option (Bor ℕ)} (left left' : Iter ℕ) →
+    SoFar lent line out words (iter_rest left) at i → i < length words → iter_steps left r left' → r ≡ None →
     SoFar lent line (set out at (get_or words i 0)) words (iter_rest left') (at + 1) (i + 1)
 none_left left left' so w s e = let (n, same) = rw e at s in rw same (word_turn so w (inr n))
 
@@ -16,11 +17,15 @@ loop-byte-preserved c =
     let so = c.loop-byte.invariant in
     let i = c.loop-byte-test.true in
     elim c.if-byte-eq35.branch [
-      | then-byte-eq35+in-Some w ↦ rw (w.out-is, w.at-is, w.left-is) (number_turn so i w.if-byte-eq35.true w.in-Some.ensures.steps w.put_number-at.ensures w.put_number-at.auto.out)
+      | then-byte-eq35+in-Some w ↦
+          rw (w.out-is, w.at-is, w.left-is)
+          (number_turn so i w.if-byte-eq35.true w.in-Some.ensures.steps w.put_number-at.ensures w.put_number-at.auto.out)
       | else-byte-eq35 w ↦
           elim w.else-byte-eq35.branch [
-            | else-byte-eq35-via-else-byte-eq35 v ↦ rw (w.out-is, w.at-is, w.left-is, v.left-is) (word_turn so i (inl v.if-byte-eq35.false))
-            | else-byte-eq35-via-then-byte-eq35+in-None-1 v ↦ rw (w.out-is, w.at-is, w.left-is, v.left-is) (none_left _ _ so i v.next.ensures.steps (search rules))
+            | else-byte-eq35-via-else-byte-eq35 v ↦
+                rw (w.out-is, w.at-is, w.left-is, v.left-is) (word_turn so i (inl v.if-byte-eq35.false))
+            | else-byte-eq35-via-then-byte-eq35+in-None-1 v ↦
+                rw (w.out-is, w.at-is, w.left-is, v.left-is) (none_left _ _ so i v.next.ensures.steps (search rules))
           ]
     ]
 

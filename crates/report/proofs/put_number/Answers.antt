@@ -12,4 +12,5 @@ returns c =
     let digits = c.format-digits.ensures.text ∙ sym (decimal_text c.args.n c.ranges.n.fits) in
     let room = c.requires in
     let fits : length (decimal c.args.n) ≤ most_digits = rw digits at c.format-digits.ensures.fits in
-    (written (omega arith) (ap (λ d. c.args.at + length d) digits) (c.put.ensures ∙ ap (over c.args.out.now c.args.at) (c.as_bytes.ensures.value ∙ digits)), omega (arith, c.format-digits.ensures.fits))
+    let put = c.put.ensures ∙ ap (over c.args.out.now c.args.at) (c.as_bytes.ensures.value ∙ digits) in
+    (written (omega arith) (ap (λ d. c.args.at + length d) digits) put, omega (arith, c.format-digits.ensures.fits))

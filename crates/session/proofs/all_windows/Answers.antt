@@ -1,14 +1,12 @@
-use Rattle.session.proofs.Windows.{none_yet, turn, at_last, no_number}
+use Rattle.std.proofs.Common.{arith}
+use Rattle.session.proofs.Windows.{turn, at_last, no_number}
 use Rattle.session.proofs.all_windows.Goals as goal
 
-pub loop-number-init : goal.loop-number-init
-loop-number-init g c = none_yet _ _ _
-
 pub loop-number-preserved : goal.loop-number-preserved
-loop-number-preserved g c = turn _ _ _ _ _ _ _ _ c.loop-number.invariant c.loop-number-test.true (rw c.if-branch.true at c.in_ok-one_window.ensures)
+loop-number-preserved g c = turn c.loop-number.invariant (omega arith) c.in_ok-one_window.ensures c.if-not-branch.false
 
-pub returns-else-branch : goal.returns-else-branch
-returns-else-branch g c = at_last _ _ _ _ _ _ _ _ c.loop-number.invariant c.loop-number-test.true (rw c.if-branch.false at c.in_ok-one_window.ensures)
+pub returns-then-not-branch : goal.returns-then-not-branch
+returns-then-not-branch g c = at_last c.loop-number.invariant (omega arith) c.in_ok-one_window.ensures c.if-not-branch.true
 
 pub returns-after-loop-number : goal.returns-after-loop-number
-returns-after-loop-number g c = no_number _ _ _ _ _ _ c.loop-number.invariant c.loop-number-test.false
+returns-after-loop-number g c = no_number _ c.loop-number.invariant (omega arith)

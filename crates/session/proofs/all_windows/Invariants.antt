@@ -1,10 +1,10 @@
--- Before each window, what was printed and the lines still to come are all the lines; the number grows, and stays below the largest.
-use Rattle.std.proofs.Common.{◌-◌}
-use Rattle.session.proofs.Windows.{SoFar}
+-- Before each window, the lines still to come, right behind what was printed, make up all the lines.
+use Rattle.session.proofs.Behind.{Whole}
+use Rattle.session.proofs.Windows.{from}
 use Rattle.session.proofs.all_windows.Given as goal
 
 abbrev pub invariant-loop-number : goal.invariant-loop-number
-invariant-loop-number g l = SoFar (g.R.Read.remaining l.fn.input) (g.R.Read.remaining l.input) l.fn.state l.number (g.W.Write.contents l.fn.output) (g.W.Write.contents l.output)
-
-abbrev pub decreases-loop-number : goal.decreases-loop-number
-decreases-loop-number g l = 18446744073709551615 - l.number
+invariant-loop-number g l =
+    let left = g.R.Read.remaining in
+    let held = g.W.Write.contents in
+    Whole (from l.fn.state 1) (left l.fn.input) (held l.fn.output) (from l.fn.state l.number) (left l.input) (held l.output)

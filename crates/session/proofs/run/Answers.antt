@@ -1,29 +1,35 @@
-use Rattle.session.specs.Session.{lines, session_text}
-use Rattle.session.proofs.Entries.{refused, accepted, from_confirmation, split_proposal, split_confirmation, on_ok}
+use Rattle.std.proofs.Common.{rules}
+use Rattle.gorsepetal.specs.State.{fresh_state}
+use Rattle.gorsepetal.specs.Calls.{Proposed, Confirmed}
+use Rattle.session.proofs.Entries.{proposed, confirmed, refused, accepted, on_ok}
 use Rattle.session.proofs.run.Goals as goal
 
 pub returns-then-not-branch : goal.returns-then-not-branch
 returns-then-not-branch g c =
-    let first = c.in_ok-r.ensures.ok in
+    let (e, met, taken) = c.in_ok-r.ensures.ok in
+    let p : Proposed fresh_state e c.in_ok-r.r c.one_entry.new.state = search rules in
     let said = c.in_ok-accepted.ensures in
-    refused _ _ _ first.0 session_text (from_confirmation c.propose.new.state) (λ xs. split_proposal first.0 xs first.1) said.line said.good _ _ first.2 c.if-not-branch.true
+    refused (proposed p taken said.line said.good) c.if-not-branch.true
 
 pub returns-then-not-branch-2 : goal.returns-then-not-branch-2
 returns-then-not-branch-2 g c =
-    let first = c.in_ok-r.ensures.ok in
+    let (e, met, taken) = c.in_ok-r.ensures.ok in
+    let p : Proposed fresh_state e c.in_ok-r.r c.one_entry.new.state = search rules in
     let said = c.in_ok-accepted.ensures in
-    let second = c.in_ok-r-2.ensures.ok in
+    let (e-2, met-2, taken-2) = c.in_ok-r-2.ensures.ok in
+    let p-2 : Confirmed c.one_entry.new.state e-2 c.in_ok-r-2.r c.one_entry-2.new.state = search rules in
     let said-2 = c.in_ok-accepted-2.ensures in
-    accepted _ _ _ first.0 session_text (from_confirmation c.propose.new.state) (λ xs. split_proposal first.0 xs first.1) said.line said.good _ _ _ first.2 c.if-not-branch.false
-    (refused _ _ _ second.0 (from_confirmation c.propose.new.state) (lines c.confirm.new.state) (λ xs. split_confirmation second.0 xs second.1) said-2.line said-2.good _ _ second.2 c.if-not-branch-2.true)
+    let good = accepted (proposed p taken said.line said.good) c.if-not-branch.false in
+    refused (confirmed good p-2 taken-2 said-2.line said-2.good) c.if-not-branch-2.true
 
 pub returns : goal.returns
 returns g c =
-    let first = c.in_ok-r.ensures.ok in
+    let (e, met, taken) = c.in_ok-r.ensures.ok in
+    let p : Proposed fresh_state e c.in_ok-r.r c.one_entry.new.state = search rules in
     let said = c.in_ok-accepted.ensures in
-    let second = c.in_ok-r-2.ensures.ok in
+    let (e-2, met-2, taken-2) = c.in_ok-r-2.ensures.ok in
+    let p-2 : Confirmed c.one_entry.new.state e-2 c.in_ok-r-2.r c.one_entry-2.new.state = search rules in
     let said-2 = c.in_ok-accepted-2.ensures in
-    on_ok c.all_windows.result
-    (λ windows. accepted _ _ _ first.0 session_text (from_confirmation c.propose.new.state) (λ xs. split_proposal first.0 xs first.1) said.line said.good _ _ _ first.2 c.if-not-branch.false
-    (accepted _ _ _ second.0 (from_confirmation c.propose.new.state) (lines c.confirm.new.state) (λ xs. split_confirmation second.0 xs second.1) said-2.line said-2.good _ _ _ second.2 c.if-not-branch-2.false windows))
-    c.all_windows.ensures
+    let good = accepted (proposed p taken said.line said.good) c.if-not-branch.false in
+    let good-2 = accepted (confirmed good p-2 taken-2 said-2.line said-2.good) c.if-not-branch-2.false in
+    on_ok c.all_windows.result (good-2.all _) c.all_windows.ensures
