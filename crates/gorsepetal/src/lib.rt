@@ -41,10 +41,7 @@ fn propose_answer(r: &[u8]) -> Answer
     if r.len() != RECORD_LENGTH {
         return Err(Refusal::OtherEntryLength);
     }
-    match checking::check(r) {
-        Ok(()) => Ok(()),
-        Err(fault) => Err(Refusal::OutOfRange(fault.at)),
-    }
+    checking::check(r).map_err(|fault| Refusal::OutOfRange(fault.at))
 }
 
 // Whether a stored record counts: done if propose would accept it, else the refusal for an absent one.
@@ -52,10 +49,7 @@ fn stored(r: &[u8], absent: Refusal) -> Answer
     requires { length r.now ≡ record_length }
     ensures { result ≡ entry_rule.of_stored (verdict r.now) (Err absent) }
 {
-    match propose_answer(r) {
-        Ok(()) => Ok(()),
-        Err(_) => Err(absent),
-    }
+    propose_answer(r).or(Err(absent))
 }
 
 // The record in force, to go by; or the refusal where this is no relay, or none is in force.
