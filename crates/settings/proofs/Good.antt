@@ -59,21 +59,6 @@ unfolding checked_by
 all_kept [] s g = tt
 all_kept (r ∷ rs) s g = grind (arith, keeps s r, all_kept rs s)
 
--- a table in two parts: what the check finds in the first, and where that is nothing, what it finds in the second
-pub in_two : (rs us : List Rule) (s : List ℕ) → checked_by (rs ++ us) s ≡ result_and (checked_by rs s) (checked_by us s)
-unfolding checked_by
-in_two [] us s = refl
-in_two (r ∷ rs) us s = grind (arith, in_two rs us s)
-
--- the parts of the settings table, each where the earlier ones find nothing
-pub in_parts : (s : List ℕ) → checked s ≡
-    result_and (checked_by differential_rows s) (result_and (checked_by distance_rows s)
-    (result_and (checked_by angle_rows s) (result_and (checked_by direction_rows s) (checked_by tail_rows s))))
-unfolding settings_table
-in_parts s =
-    in_two differential_rows _ s ∙ ap (result_and _) (in_two distance_rows _ s ∙ ap (result_and _) (in_two angle_rows _ s
-    ∙ ap (result_and _) (in_two direction_rows tail_rows s)))
-
 pub good : (rs : List Rule) (s : List ℕ) → AllKept rs s → checked_by rs s ≡ Ok tt
 unfolding checked_by
 good [] s h = refl
@@ -102,3 +87,20 @@ pub fault_is : (rs : List Rule) (s : List ℕ) (k : ℕ) → FirstFault rs s k �
 unfolding checked_by
 fault_is rs s k (here t) = rw t
 fault_is rs s k (later t f) = rw t (fault_is _ s k f)
+
+-- ---- a table in parts
+
+-- a table in two parts: what the check finds in the first, and where that is nothing, what it finds in the second
+pub in_two : (rs us : List Rule) (s : List ℕ) → checked_by (rs ++ us) s ≡ result_and (checked_by rs s) (checked_by us s)
+unfolding checked_by
+in_two [] us s = refl
+in_two (r ∷ rs) us s = grind (arith, in_two rs us s)
+
+-- the parts of the settings table, each where the earlier ones find nothing
+pub in_parts : (s : List ℕ) → checked s ≡
+    result_and (checked_by differential_rows s) (result_and (checked_by distance_rows s)
+    (result_and (checked_by angle_rows s) (result_and (checked_by direction_rows s) (checked_by tail_rows s))))
+unfolding settings_table
+in_parts s =
+    in_two differential_rows _ s ∙ ap (result_and _) (in_two distance_rows _ s ∙ ap (result_and _) (in_two angle_rows _ s
+    ∙ ap (result_and _) (in_two direction_rows tail_rows s)))

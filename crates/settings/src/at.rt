@@ -1,4 +1,4 @@
-// The offset of each field of a settings record.
+// The offset of each field of a settings record. They are numbers and no enum: a field is read there, and a fault is reported there.
 pub const ENDS: u8 = 0;
 
 pub const SLOPE: u8 = 2;

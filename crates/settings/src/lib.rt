@@ -1,7 +1,7 @@
 // The settings record of document 01: its fields. The table of its rules is specs/Table.antt; `checking` goes through it.
 #![tactic(auto)]
 
-ghost use Rattle.std.specs.Prelude.{◌≡◌, ◌<◌, get_or};
+ghost use Rattle.std.specs.Prelude.{◌≡◌, get_or};
 ghost use Rattle.settings.specs.Record.{field_at, signed_at};
 
 pub mod at; // the offsets by name
@@ -25,7 +25,7 @@ pub fn byte(s: &[u8], at: usize) -> u8
     s.get(at).copied().unwrap_or(0)
 }
 
-// The field at an offset: 16 bits, the upper byte first.
+// The field at an offset: 16 bits, the upper byte first. The offset after a u8 is reckoned in more bits, so that it cannot overflow.
 pub fn field(s: &[u8], at: u8) -> u16
     ensures { result ≡ field_at s.now at }
 {
