@@ -6,7 +6,7 @@ use native.Mathlib.Omega.{arith}
 use native.Mathlib.Numerals.{add-one}
 use borrow.Author.Tests.{eq-eqb}
 use lib.ListN.{length, take, drop}
-use Rattle.std.specs.Prelude.{Ok}
+use Rattle.std.specs.Prelude.{Ok as Done}
 use Rattle.answers.specs.Answers.{given_back}
 use Rattle.answers.proofs.Numbers.{zero_is, not_zero_refused}
 use Rattle.lent.specs.Lent.{over}
@@ -224,7 +224,7 @@ writes_record ends written time f out out₁ c = of_row ((events_write_answers e
     of_row (row.WriteRow.no_room g x y) z = absurd (omega arith)
     of_row (row.WriteRow.other_number g x y w) z = absurd (omega arith)
     of_row (row.WriteRow.done g long room w) z =
-        let done : write_answer ends written f out ≡ Ok tt = zero_is (write_answer ends written f out) (sym c.given) in
+        let done : write_answer ends written f out ≡ Done tt = zero_is (write_answer ends written f out) (sym c.given) in
         let x : List ℕ = record_of (written + 1) time f in
         let is : out₁ ≡ over out 0 x = c.buffer ∙ rw done in
         let size = made_length ends (written + 1) time f long in
