@@ -1,12 +1,11 @@
--- `samples::first_missing` meets its contract: the first number that passes the test is the first missing.
-use Rattle.std.proofs.Common.{rules, tests, ◌≡◌}
-use Rattle.std.proofs.lemmas.Iterator.{IsFirst-from_position, YieldsList-from_slice}
-use Rattle.samples.specs.Window.{missing_mark}
-use Rattle.samples.proofs.Missing.{first_marked}
+-- `samples::first_missing` meets its contract: the search goes on behind a number that is not missing.
+use Rattle.std.proofs.Common.{rules, ◌*◌}
+use Rattle.samples.proofs.Missing.{goes_on}
 use Rattle.samples.proofs.first_missing.Goals as goal
 
-pub returns : goal.returns
-returns c =
-    first_marked c.args.window.now _
-    (IsFirst-from_position _ _ _ (λ x. x ≡ missing_mark) (λ x. x ≡ missing_mark → ⊥) c.position.ensures.ran
-    (YieldsList-from_slice c.args.window.now cc) (λ x q k. search (rules, tests)) (λ x q k. search (rules, tests)))
+pub loop-c-preserved : goal.loop-c-preserved
+loop-c-preserved c = (
+  c.loop-c.invariant.0,
+  goes_on (c.in-Some.f * c.div_ceil-channels.result) c.loop-c.c c.in-Some.frame.now c.next.new.self.iter.rest.now _ c.loop-c-test.true
+      (search rules) c.loop-c.invariant.1,
+)
