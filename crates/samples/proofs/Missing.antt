@@ -1,13 +1,14 @@
 -- What `first_missing` means: it finds the missing number that has none before it, and nothing else can be found so.
-use Prim.Native.Nat.{ℕ, zero, suc, ◌+◌, ◌*◌, ◌-◌, ◌<◌, ◌≤◌}
-use mathlib.Core.Path.{◌≡◌, refl, sym, ap, subst}
-use mathlib.Core.List.{List, [], ◌∷◌}
+use Prim.Native.Nat.{ℕ, zero, suc, ◌+◌, ◌*◌, ◌-◌, ◌<◌, ◌≤◌, min}
+use mathlib.Core.Path.{◌≡◌, refl, sym, ap, subst, ◌∙◌}
+use mathlib.Core.List.{List, [], ◌∷◌, ◌++◌, append-nil}
 use mathlib.Core.Bool.{Bool, true, false, cond, true≢false}
-use native.Mathlib.Nat.{le_of_suc-le-suc, not-suc-le-zero, lt_of_not-le, le_antisymm, sub-zero, mul-le-mul_right}
+use native.Mathlib.Nat.{zero-mul, le_of_suc-le-suc, not-suc-le-zero, lt_of_not-le, le_antisymm, sub-zero, mul-le-mul_right}
+use native.Mathlib.Numerals.{add-one}
 use native.Mathlib.Omega.{arith}
 use borrow.Author.Tests.{eqb-true}
 use lib.IntN.{ℤ, pos, negsuc}
-use lib.ListN.{length, get_or}
+use lib.ListN.{length, drop, get_or, length-append, drop_of_length-le}
 use Rattle.std.specs.Prelude.{Option, None, Some}
 use Rattle.std.specs.List.{AllWithin}
 use Rattle.std.specs.Ordering.{int_eq}
@@ -22,6 +23,13 @@ marked (negsuc n) t = ap negsuc (eqb-true n 32767 t)
 
 unmarked : (x : ℤ) → same x missing_mark ≡ false → x ≡ missing_mark → ⊥
 unmarked x t e = true≢false (rw e at t)
+
+not_marked : (x : ℤ) → (x ≡ missing_mark → ⊥) → same x missing_mark ≡ false
+not_marked x other = by_test (same x missing_mark) refl
+  where
+    by_test : (b : Bool) → same x missing_mark ≡ b → b ≡ false
+    by_test true t = absurd (other (marked x t))
+    by_test false t = refl
 
 -- ---- the search finds what it has to
 
@@ -88,6 +96,52 @@ is_first w r h = one w r (first_missing w) h (finds w)
 -- where no number equals the mark, none is missing
 pub none_marked : (w : List ℤ) → AllWithin (λ x. int_eq x missing_mark ≡ false) w 0 (length w) → None ≡ first_missing w
 none_marked w h = is_first w None (λ k l m. let other = h k (pos 0) (omega arith) l in true≢false (rw m at other))
+
+-- ---- the search as it goes on: over a frame from c on, and what is left behind it
+
+pub begins : (m : ℕ) (w : List ℤ) → missing_from (0 * m) w ≡ first_missing w
+unfolding first_missing
+begins m w = ap (λ (k : ℕ). missing_from k w) (zero-mul m)
+
+pub none_left : (k : ℕ) (w : List ℤ) → length w ≡ 0 → missing_from k w ≡ None
+unfolding missing_from
+none_left k [] e = refl
+none_left k (x ∷ w) e = absurd (omega arith)
+
+-- one number more: it is the mark, or the search goes on behind it
+turn :
+    (k c : ℕ) (frame w : List ℤ) → c < length frame →
+    missing_from k (drop c frame ++ w) ≡ cond (same (get_or frame c (pos 0)) missing_mark) (Some k) (missing_from (suc k) (drop (suc c) frame ++ w))
+unfolding missing_from
+turn k c [] w h = absurd (not-suc-le-zero h)
+turn k zero (x ∷ frame) w h = refl
+turn k (suc c) (x ∷ frame) w h = turn k c frame w (le_of_suc-le-suc h)
+
+pub goes_on :
+    (k c : ℕ) (frame w : List ℤ) (r : Option ℕ) → c < length frame → (get_or frame c (pos 0) ≡ missing_mark → ⊥) →
+    missing_from (k + c) (drop c frame ++ w) ≡ r → missing_from (k + (c + 1)) (drop (c + 1) frame ++ w) ≡ r
+goes_on k c frame w r h other e =
+    let x : ℤ = get_or frame c (pos 0) in
+    let next : k + (c + 1) ≡ suc (k + c) = omega arith in
+    rw (next, add-one c) (let here = turn (k + c) c frame w h in sym (rw (not_marked x other) at here) ∙ e)
+
+pub ends_here :
+    (k c : ℕ) (frame w : List ℤ) → c < length frame → get_or frame c (pos 0) ≡ missing_mark → missing_from k (drop c frame ++ w) ≡ Some k
+ends_here k c frame w h e = let here = turn k c frame w h in rw e at here
+
+-- past a frame's end; only the last can be shorter
+pub next_frame :
+    (f m c : ℕ) (frame w : List ℤ) → c ≡ length frame → length frame ≡ min m (length (frame ++ w)) →
+    missing_from (f * m + c) (drop c frame ++ w) ≡ missing_from ((f + 1) * m) w
+unfolding missing_from
+next_frame f m c frame [] e long = rw (append-nil (drop c frame), drop_of_length-le frame {i = c} (omega (arith, e))) refl
+next_frame f m c frame (x ∷ w) e long =
+    let whole : c ≡ m = omega (arith, e, long, length-append frame (x ∷ w)) in
+    let place : f * m + c ≡ (f + 1) * m = omega (arith, whole) in
+    rw (drop_of_length-le frame {i = c} (omega (arith, e)), place) refl
+
+-- for the contract of `first_missing`
+pub ruleset searched = (none_marked, begins, none_left, ends_here, next_frame)
 
 -- ---- frame order, then channel order
 

@@ -45,22 +45,21 @@ pub fn numbers(bytes: &[u8], samples: &mut [i16])
     }
 }
 
-// The first missing sample of a window, frame by frame, and in a frame channel by channel: the loops that document 01 names for it.
-// `contains` takes many numbers at a time and the search takes one, so there is no search where none is missing.
-#[tactic(auto, using(crate::proofs::Missing::none_marked))]
-pub fn first_missing(window: &[i16], frames: usize, channels: usize) -> Option<usize>
-    requires { length window.now ≡ frames * channels }
+// The first missing sample of a window, frame by frame, and in a frame channel by channel. `contains` takes many numbers at a time and the
+// search takes one, so there is no search where none is missing. Nested loops left by a label are the form that document 01 names for it.
+#[tactic(auto, using(crate::proofs::Missing::searched))]
+pub fn first_missing(window: &[i16]) -> Option<usize>
     ensures { result ≡ first_missing window.now }
 {
     if !window.contains(&MISSING) {
         return None;
     }
+    let channels = window.len().div_ceil(FRAMES);
     let mut found = None;
-    'search: for f in 0..frames {
-        for c in 0..channels {
-            let at = f * channels + c;
-            if window[at] == MISSING {
-                found = Some(at);
+    'search: for (f, frame) in window.chunks(channels).enumerate() {
+        for (c, &x) in frame.iter().enumerate() {
+            if x == MISSING {
+                found = Some(f * channels + c);
                 break 'search;
             }
         }

@@ -1,6 +1,12 @@
-use Rattle.std.proofs.Common.{rules, tests}
+-- `samples::first_missing` meets its contract: the search goes on behind a number that is not missing.
+use Rattle.std.proofs.Common.{rules, ◌*◌}
+use Rattle.samples.proofs.Missing.{goes_on}
 use Rattle.samples.proofs.first_missing.Goals as goal
 use Rattle.samples.proofs.Missing.{first_found}
 
-pub returns-then-window-at : goal.returns-then-window-at
-returns-then-window-at c = first_found _ c.args.frames c.args.channels _ _ c.requires (search rules) (search rules) (search (rules, tests)) c.loop-c.invariant.2
+pub loop-c-preserved : goal.loop-c-preserved
+loop-c-preserved c = (
+  c.loop-c.invariant.0,
+  goes_on (c.in-Some.f * c.div_ceil-channels.result) c.loop-c.c c.in-Some.frame.now c.next.new.self.iter.rest.now _ c.loop-c-test.true
+      (search rules) c.loop-c.invariant.1,
+)
