@@ -108,8 +108,7 @@ fn decide_by(s: Settings, window: &[i16], out: &mut [u8]) -> Answer
     if out.len() < LENGTH {
         return Err(Refusal::NoRoom);
     }
-    let channels = samples::channels(s.ends() as usize);
-    if let Some(k) = samples::first_missing(window, samples::FRAMES, channels) {
+    if let Some(k) = samples::first_missing(window) {
         return Err(Refusal::MissingSample(k as u16));
     }
     let record = decision(s, window);

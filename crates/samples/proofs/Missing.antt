@@ -149,12 +149,6 @@ pub ruleset searched = (none_marked, begins, none_left, ends_here, next_frame)
 pub earlier : (m g d f : ℕ) → g < f → d < m → g * m + d < f * m
 earlier m g d f h l = omega (arith, mul-le-mul_right m h)
 
--- so a missing number at channel c of frame f, with none before it, is the first
-pub first_found :
-    (w : List ℤ) (n m f c : ℕ) → length w ≡ n * m → f < n → c < m → get_or w (f * m + c) (pos 0) ≡ missing_mark → NoneMissing w (f * m + c) →
-    Some (f * m + c) ≡ first_missing w
-first_found w n m f c l i j there before = is_first w (Some (f * m + c)) (omega (arith, earlier m f c n i j), there, before)
-
 -- the place that it gives, as a frame and a channel
 pub first_in_order : (m : ℕ) (w : List ℤ) (f c : ℕ) → c < m → first_missing w ≡ Some (f * m + c) → FirstInOrder m w f c
 first_in_order m w f c h e =

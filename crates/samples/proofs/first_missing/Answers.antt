@@ -2,7 +2,6 @@
 use Rattle.std.proofs.Common.{rules, ◌*◌}
 use Rattle.samples.proofs.Missing.{goes_on}
 use Rattle.samples.proofs.first_missing.Goals as goal
-use Rattle.samples.proofs.Missing.{first_found}
 
 pub loop-c-preserved : goal.loop-c-preserved
 loop-c-preserved c = (
