@@ -265,8 +265,8 @@ def reader_parts():
 
 def endings():
     """The numbers that end the reading of an event file, in the order of the definitions, each with whether it has a place."""
-    numbered = dict(re.findall(r'^number \(?(\w+)(?: at\))? = (\d+)$', read(ANSWERS), flags=re.MULTILINE))
-    found = re.findall(r'^answer_of (\(?)\w+(?: \w+\))? = answer\.(\w+)', read(READER), flags=re.MULTILINE)
+    numbered = dict(re.findall(r'^number \(Err \(?(\w+)(?: at\))?\) = (\d+)$', read(ANSWERS), flags=re.MULTILINE))
+    found = re.findall(r'^refusal_of (\(?)\w+(?: \w+\))? = refused\.(\w+)', read(READER), flags=re.MULTILINE)
     return {int(numbered[name]): bool(placed) for placed, name in found}
 
 

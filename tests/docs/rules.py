@@ -113,7 +113,7 @@ def figures(name, further=1):
     """The numbers in a definition, in the constants and of the answers that it names, and in the definitions that it names."""
     text = re.sub(r'\bnegsuc (\d+)', lambda m: str(int(m[1]) + 1), definitions().get(name, ''))
     words = set(re.findall(r'[^\s(){},;.]+', text)) - {name}
-    given = re.findall(r'^number \(?(\w+)(?: at\))? = (\d+)$', definitions()['number'], flags=re.MULTILINE)
+    given = re.findall(r'^number \(Err \(?(\w+)(?: at\))?\) = (\d+)$', definitions()['number'], flags=re.MULTILINE)
     known = {**constants(), **{answer: int(n) for answer, n in given}}
     found = {abs(n) for n in numbers(text)} | {known[word] for word in {name, *words} if word in known}
     return found.union(*(figures(word, further - 1) for word in words if further and word in definitions()))
