@@ -1,19 +1,16 @@
 -- `gorsepetal::event_files::read` meets its contract: one law for each thing that a piece comes to.
-use Rattle.std.proofs.Common.{rules, Err}
-use Rattle.gorsepetal.proofs.EventCases.{Reads, stopped, taken, fed}
+use Rattle.std.proofs.Common.{rules}
+use Rattle.gorsepetal.proofs.EventCases.{stopped, taken, fed}
 use Rattle.gorsepetal.proofs.event_files.read.Goals as goal
 
-at_refusal : (c : goal.In-Err) → Reads c.args.state.now c.args.reader.now c.args.bytes.now c.args.out.now (Err c.in-Err.refusal) c.args.state.now c.read.new.reader c.args.out.now
-at_refusal c = stopped _ _ _ _ _ (search rules) c.in-Some.ensures.cases _ _ c.read.ensures _ c.in-Err.is
-
 pub returns-in-Err-clause-answer : goal.returns-in-Err-clause-answer
-returns-in-Err-clause-answer c = (at_refusal c).answer
+returns-in-Err-clause-answer c = (stopped c.args.state.now c.args.reader.now c.args.bytes.now c.args.out.now _ (search rules) c.in-Some.ensures.cases _ _ c.read.ensures _ c.in-Err.is).answer
 
 pub returns-in-Err-clause-state : goal.returns-in-Err-clause-state
-returns-in-Err-clause-state c = (at_refusal c).state
+returns-in-Err-clause-state c = (stopped c.args.state.now c.args.reader.now c.args.bytes.now c.args.out.now _ (search rules) c.in-Some.ensures.cases _ _ c.read.ensures _ c.in-Err.is).state
 
 pub returns-in-Err-clause-buffer : goal.returns-in-Err-clause-buffer
-returns-in-Err-clause-buffer c = (at_refusal c).buffer
+returns-in-Err-clause-buffer c = (stopped c.args.state.now c.args.reader.now c.args.bytes.now c.args.out.now _ (search rules) c.in-Some.ensures.cases _ _ c.read.ensures _ c.in-Err.is).buffer
 
 pub returns-in-Ok-Taken-clause-answer : goal.returns-in-Ok-Taken-clause-answer
 returns-in-Ok-Taken-clause-answer c = (taken c.args.state.now c.args.reader.now c.args.bytes.now c.args.out.now _ (search rules) c.in-Some.ensures.cases _ _ c.read.ensures (search rules)).answer
