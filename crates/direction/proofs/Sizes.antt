@@ -6,7 +6,7 @@ use mir.Syntax.{w64}
 use mir.Val.{SFits}
 use mir.Facts.{to_z-of_z}
 use Rattle.whole.specs.Sizes.{Within}
-use Rattle.whole.proofs.Size.{lit}
+use Rattle.whole.proofs.Size.{lit, wider}
 use Rattle.plane.specs.declared.Phasor.{Phasor}
 use Rattle.plane.specs.declared.Phases.{Phases}
 use Rattle.plane.specs.Plane.{plus, times, scaled}
@@ -17,6 +17,9 @@ use Rattle.plane.proofs.Bounds.{inside_plus, inside_factor, inside_scaled, insid
 use Rattle.settings.specs.Table.{most_limit}
 use Rattle.direction.specs.Sequence.{scale, turned, sequence}
 use Rattle.direction.specs.Sizes.{Turn, sequence_size, polarising_size, square_size}
+
+pub turn_inside : {f : Phasor} → Turn f → Inside 14189 f
+turn_inside t = record { real = wider t.real tt; imag = t.imag }
 
 -- 3V1, 3V2 and 3I2: the first two terms, all three, and what they are rounded to
 module _ {f g : Phasor} {x : Phases Phasor} (p : Turn f) (q : Turn g) (h : AllInside phasor_size x) where

@@ -1,13 +1,13 @@
 -- Writing a line, on plain lists: with the words from i on and the numbers `left` still to come, what is printed of them, right behind what
 -- is written, leaves the whole line, and there is room for it.
 use Prim.Native.Nat.{ℕ, ◌+◌, ◌*◌, ◌<◌, ◌≤◌}
-use mathlib.Core.Path.{◌≡◌, refl, ◌∙◌, ap}
+use mathlib.Core.Path.{◌≡◌, refl, sym, ◌∙◌, ap}
 use mathlib.Core.Logic.{◌⊎◌, ⊎_elim}
 use mathlib.Core.List.{List, [], ◌∷◌, ◌++◌}
 use native.Mathlib.Numerals.{add-one}
 use native.Mathlib.Omega.{arith}
 use lib.ListN.{length, get_or, set, drop, length-set, length-append, drop_of_length-le}
-use lib.Seq.{drop-cons, sets-eq}
+use lib.Seq.{drop-cons, sets-eq, length-take-le}
 use Rattle.std.proofs.Common.{eq-eqb, ne_eqb}
 use Rattle.lent.specs.Lent.{over}
 use Rattle.lent.proofs.Over.{over_over, over_none}
@@ -66,4 +66,5 @@ pub all_written :
 unfolding printed
 all_written {out = out} {words} {at = at} so e =
     let last = drop_of_length-le words e in
-    record { ends = omega (arith, rw last at so.ends); buffer = over_none out at ∙ rw last at so.text; inside = omega (arith, so.room) }
+    let l : at ≤ length out = omega (arith, so.room) in
+    record { ends = omega (arith, rw last at so.ends); buffer = over_none out at ∙ rw last at so.text; inside = (l, sym (length-take-le at out l)) }

@@ -6,7 +6,7 @@ use mathlib.Core.Bool.{Bool, true, false, cond, ◌&&◌}
 use native.Mathlib.Nat.{not-suc-le-zero}
 use native.Mathlib.Numerals.{add-one}
 use native.Mathlib.Omega.{arith}
-use borrow.Author.Tests.{eq-eqb, ne_eqb, le-leb, eqb-true, eqb-false, leb-true}
+use borrow.Author.Tests.{eq-eqb, ne_eqb, le-leb, lt-leb, eqb-true, eqb-false, leb-true}
 use lib.Dec.{eqb, leb}
 use lib.IntN.{ℤ, pos}
 use lib.ListN.{length, take, drop, set, get_or}
@@ -29,8 +29,14 @@ numbers_length (x ∷ y ∷ b) = omega (arith, numbers_length b)
 pub held : (n : ℕ) (b : List ℕ) → HoldsNumbers n b → length (numbers_of b) ≡ n
 held n b h = omega (arith, numbers_length b)
 
--- how many are taken
+-- how many are taken: where a byte is over, where they are too many, and else
 module _ (b : List ℕ) where
+  pub count_odd : (2 * (length b / 2) ≡ length b → ⊥) → 0 ≡ count b
+  count_odd h = rw (ne_eqb (2 * (length b / 2)) (length b) h)
+
+  pub count_long : 2 * (length b / 2) ≡ length b → window_length 6 < length b / 2 → 0 ≡ count b
+  count_long h l = rw (eq-eqb (2 * (length b / 2)) (length b) h, lt-leb (length b / 2) (window_length 6) l)
+
   pub count_all : 2 * (length b / 2) ≡ length b → length b / 2 ≤ window_length 6 → length b / 2 ≡ count b
   count_all h l = rw (eq-eqb (2 * (length b / 2)) (length b) h, le-leb (length b / 2) (window_length 6) l)
 

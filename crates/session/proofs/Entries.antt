@@ -20,13 +20,13 @@ from_confirmation s xs =
     let e = take record_length xs in
     entry_text (given_back (confirm_answer s e)) (lines (confirm_state s e) (drop record_length xs))
 
-split_proposal :
+pub split_proposal :
     {e s : List ℕ} {r : ℕ} → Proposed fresh_state e r s → (xs : List ℕ) → e ≡ take record_length xs →
     session_text xs ≡ entry_text r (from_confirmation s (drop record_length xs))
 unfolding session_text
 split_proposal p xs t = rw (p.given, p.state, t)
 
-split_confirmation :
+pub split_confirmation :
     {e s s' : List ℕ} {r : ℕ} → Confirmed s e r s' → (xs : List ℕ) → e ≡ take record_length xs →
     from_confirmation s xs ≡ entry_text r (lines s' (drop record_length xs))
 split_confirmation p xs t = rw (p.given, p.state, t)

@@ -17,14 +17,14 @@ use Rattle.whole.proofs.Size.{abs_of}
 
 -- ---- the quotient rounded down: d times it is at most z, and d times one more is above
 
-floor : (z : ℤ) (d : ℕ) → 0 < d → ((pos d *ℤ shr_z z d) ≤ℤ z) × (z <ℤ (pos d *ℤ shr_z z d +ℤ pos d))
+pub floor : (z : ℤ) (d : ℕ) → 0 < d → ((pos d *ℤ shr_z z d) ≤ℤ z) × (z <ℤ (pos d *ℤ shr_z z d +ℤ pos d))
 floor (pos a) d p =
     let e = div-add-mod a d in let l = mod-lt a p in (d_le (search diff) (omega arith), d_lt (search diff) (omega arith))
 floor (negsuc a) d p =
     let e = div-add-mod a d in let l = mod-lt a p in (d_le (search diff) (omega arith), d_lt (search diff) (omega arith))
 
 -- d y is below d z + d only where y is at most z
-at_most : (d : ℕ) (y z : ℤ) → (pos d *ℤ y) <ℤ (pos d *ℤ z +ℤ pos d) → y ≤ℤ z
+pub at_most : (d : ℕ) (y z : ℤ) → (pos d *ℤ y) <ℤ (pos d *ℤ z +ℤ pos d) → y ≤ℤ z
 at_most d y z h = ≤_unless y z (λ k. false! (pos d ∷ y ∷ z ∷ []) (g_lt h ⊞ g_num d ⊠ g_lt k) (search quo depth 40) tt)
 
 -- ---- the rounded number

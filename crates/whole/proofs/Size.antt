@@ -16,11 +16,11 @@ use Rattle.whole.proofs.Difference.{up, down, Diff, d_atom, d_neg, d_add, diff, 
 -- ---- the absolute value
 
 -- what `nat_abs` and `mag` come to: of a number, and of the opposite of a natural number
-sizes : (z : ℤ) → (nat_abs z ≡ up z + down z) × (mag z ≤ nat_abs z)
+pub sizes : (z : ℤ) → (nat_abs z ≡ up z + down z) × (mag z ≤ nat_abs z)
 sizes (pos n) = omega arith
 sizes (negsuc n) = omega arith
 
-neg_sizes : (n : ℕ) → (nat_abs (neg_ℤ (pos n)) ≡ n) × (mag (neg_ℤ (pos n)) ≤ n - 1)
+pub neg_sizes : (n : ℕ) → (nat_abs (neg_ℤ (pos n)) ≡ n) × (mag (neg_ℤ (pos n)) ≤ n - 1)
 neg_sizes zero = omega arith
 neg_sizes (suc n) = omega arith
 
