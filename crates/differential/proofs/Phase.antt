@@ -1,4 +1,4 @@
--- What is compared in one phase, from a list of its currents: equal currents give the same, and how large the sums get.
+-- What is compared in one phase, from the current of each end: equal currents give the same, and how large the sums get.
 use mathlib.Core.Path.{◌≡◌, refl, ap, ◌∙◌}
 use mathlib.Core.List.{List}
 use Prim.Native.Nat.{ℕ, zero, suc, ◌+◌, ◌*◌, ◌^◌, ◌<◌, ◌≤◌}
@@ -31,35 +31,31 @@ comparison_same f g n h =
     let u = sum_same (λ e. end_restraint (f e)) (λ e. end_restraint (g e)) n (λ e k. ap end_restraint (h e k)) in
     λ i. record { square = s i; restraint = u i }
 
--- the current of each end
-abbrev pub at : List Phasor → ℕ → Phasor
-at s e = get_or s e plane.zero
-
 -- ---- one turn of the loop over the ends, whose end has the current x, and what the loop leaves
 
-module _ (s : List Phasor) (n : ℕ) {x : Phasor} (e : x ≡ at s n) where
-  pub one_more : {sum r : Phasor} → sum ≡ total (at s) n → r ≡ plus sum x → r ≡ total (at s) (n + 1)
-  one_more f g = rw (g, f, e, total_next (at s) n)
+module _ (i : ℕ → Phasor) (n : ℕ) {x : Phasor} (e : x ≡ i n) where
+  pub one_more : {sum r : Phasor} → sum ≡ total i n → r ≡ plus sum x → r ≡ total i (n + 1)
+  one_more f g = rw (g, f, e, total_next i n)
 
-  pub restrained_more : {u v : ℕ} → u ≡ restraint (at s) n → v ≡ end_restraint x → u + v ≡ restraint (at s) (n + 1)
-  restrained_more f g = rw (g, f, e, restraint_next (at s) n)
+  pub restrained_more : {u v : ℕ} → u ≡ restraint i n → v ≡ end_restraint x → u + v ≡ restraint i (n + 1)
+  restrained_more f g = rw (g, f, e, restraint_next i n)
 
-  pub no_larger : Inside phasor_size (at s n) → Inside (2 ^ 61) x
+  pub no_larger : Inside phasor_size (i n) → Inside (2 ^ 61) x
   no_larger h = inside_along e (inside_wider h tt)
 
-module _ (s : List Phasor) (ends : ℕ) (h : (ends ≤ 6) × ((e : ℕ) → e < ends → Inside phasor_size (at s e))) where
-  pub sum_inside : {n : ℕ} {sum : Phasor} → sum ≡ total (at s) n → n ≤ ends → Inside 252000 sum
+module _ (i : ℕ → Phasor) (ends : ℕ) (h : (ends ≤ 6) × ((e : ℕ) → e < ends → Inside phasor_size (i e))) where
+  pub sum_inside : {n : ℕ} {sum : Phasor} → sum ≡ total i n → n ≤ ends → Inside 252000 sum
   sum_inside {n} e l =
       let most : 42000 * n ≤ 252000 = omega (arith, h.0) in
-      inside_along e (inside_wider (inside_total (at s) 42000 n (λ k m. h.1 k (omega arith))) (le→leb _ _ most))
+      inside_along e (inside_wider (inside_total i 42000 n (λ k m. h.1 k (omega arith))) (le→leb _ _ most))
 
   pub compared :
-      {n u q : ℕ} {sum : Phasor} → sum ≡ total (at s) n → u ≡ restraint (at s) n → u ≤ end_most * n → n ≡ ends →
+      {n u q : ℕ} {sum : Phasor} → sum ≡ total i n → u ≡ restraint i n → u ≤ end_most * n → n ≡ ends →
       q ≡ squared_magnitude sum →
-      (record { square = q; restraint = u } ≡ comparison (at s) ends) × Sized (record { square = q; restraint = u })
+      (record { square = q; restraint = u } ≡ comparison i ends) × Sized (record { square = q; restraint = u })
   unfolding square
   compared {n} {u} {q} {sum} e f most past g = (
-    rw (← past) (λ i. record { square = (g ∙ ap squared_magnitude e) i; restraint = f i }),
+    rw (← past) (λ t. record { square = (g ∙ ap squared_magnitude e) t; restraint = f t }),
     record {
       square_size = omega (arith, g, squared_magnitude_most (sum_inside e (omega arith)));
       restraint_size = omega (arith, h.0);

@@ -63,8 +63,16 @@ module _ (pickup : ℕ) (x : Comparison) where
     pub some : 1 ≤ width
     pub most : least + width ≤ most_slope + 1
 
+  pub any_number : Between 0 101
+  any_number = record { low = λ one. absurd (omega arith); high = λ top. absurd (omega arith); some = omega arith; most = omega arith }
+
   -- b is what is found at the middle
   module _ (least width : ℕ) (h : Between least width) where
+    pub upper_half : {b : Bool} → b ≡ operates (least + width / 2) pickup x → b ≡ true → Between (least + width / 2) (width - width / 2)
+    upper_half e t =
+        let same : least + width / 2 + (width - width / 2) ≡ least + width = omega arith in
+        record { low = λ one. sym e ∙ t; high = rw same h.high; some = omega (arith, h.some); most = omega (arith, h.most) }
+
     pub lower_half : {b : Bool} → b ≡ operates (least + width / 2) pickup x → b ≡ false → Between least (width - width / 2)
     lower_half e t =
         record { low = h.low; high = λ top. larger_slope (sym e ∙ t) (omega arith); some = omega (arith, h.some); most = omega (arith, h.most) }

@@ -40,14 +40,16 @@ fn end_restraint(i: Phasor) -> u64
     whole::root_up(SIXTY_FOURTHS_SQUARED * plane::squared_magnitude(i))
 }
 
-// s and U of a phase, in one pass over its ends: a row of the grid, of which so many places are filled.
-fn of_phase(currents: &[Phasor; 6], ends: usize) -> Comparison
-    requires { (ends ≤ 6) × ((e : ℕ) → e < ends → Inside phasor_size (get_or currents.now e zero)) }
-    ensures { (result ≡ comparison (λ e. get_or currents.now e zero) ends) × Sized result }
+// s and U of a phase, in one pass over its ends. By index, and not over a row: so a grid that is read end by phase, and a sum that begins at
+// end 2, are refused for that (must-fail/end_by_phase.edit, local_end_left_out.edit).
+fn of_phase(grid: &[[Phasor; 6]; 3], p: usize, ends: usize) -> Comparison
+    requires { (p < 3) × (ends ≤ 6) × GridInside grid.now ends }
+    ensures { (result ≡ comparison (cell grid.now p) ends) × Sized result }
 {
     let mut sum = Phasor { re: 0, im: 0 };
     let mut restraint: u64 = 0;
-    for &i in &currents[..ends] {
+    for e in 0..ends {
+        let i = grid[p][e];
         sum = sum + i;
         restraint += end_restraint(i);
     }
@@ -60,11 +62,10 @@ pub fn of_phases(grid: [[Phasor; 6]; 3], ends: usize) -> Phases<Comparison>
     requires { (ends ≤ 6) × GridInside grid ends }
     ensures { (result ≡ comparisons (cell grid) ends) × AllSized result }
 {
-    let [a, b, c] = grid;
     Phases {
-        a: of_phase(&a, ends),
-        b: of_phase(&b, ends),
-        c: of_phase(&c, ends),
+        a: of_phase(&grid, 0, ends),
+        b: of_phase(&grid, 1, ends),
+        c: of_phase(&grid, 2, ends),
     }
 }
 

@@ -63,7 +63,8 @@ fn kept(state: &mut [u8], at: usize, frame: &[u8], out: &mut [u8]) -> Answer
         return Err(Refusal::TooFewFrames);
     }
     let n = FRAMES * channels;
-    decision::decide(record(state), &window.numbers[0..n], out)
+    let bytes = &state[RECORD..RECORD_END];
+    decision::decide(Settings { bytes }, &window.numbers[0..n], out)
 }
 
 // What a frame is answered: its length is asked for, then the room for a decision, and else it is kept. The window lies from `at` on.

@@ -1,18 +1,17 @@
 -- What a comparison finds: the first difference, if there is one; no difference is equality.
-use Prim.Native.Nat.{ℕ, zero, suc, ◌+◌, ◌-◌, ◌≤◌}
+use Prim.Native.Nat.{ℕ, zero, suc, ◌+◌, ◌-◌, ◌<◌, ◌≤◌}
 use mathlib.Core.Path.{◌≡◌, refl, ap, ap₂, ◌∙◌}
 use mathlib.Core.List.{List, [], ◌∷◌}
-use mathlib.Core.Bool.{Bool, true, false, cond, not}
+use mathlib.Core.Bool.{Bool, true, false, cond}
 use native.Mathlib.Nat.{sub-zero}
 use native.Mathlib.Omega.{arith}
 use borrow.Author.Tests.{eq-eqb, ne_eqb, eqb-true, eqb-false}
-use lib.ListN.{length, take}
+use lib.ListN.{length, take, get_or, drop, drop_of_length-le}
+use lib.Seq.{drop-cons}
 use lib.Dec.{eqb}
 use Rattle.std.proofs.lemmas.Bool.Decides.{nat_tests}
 use Rattle.lent.specs.Lent.{differ_from, first_difference, FirstAt}
-use Rattle.std.specs.Prelude.{Option, Some, None, ◌==◌}
-use Rattle.std.specs.List.{zip, position, position_from}
-use Rattle.std.proofs.lemmas.Iterator.Adapters.{position_from-zero}
+use Rattle.std.specs.Prelude.{Some, None}
 use native.Mathlib.Numerals.{add-one}
 
 first_from : (j k : ℕ) (xs ys : List ℕ) → differ_from j xs ys ≡ Some k → (j ≤ k) × FirstAt xs ys (k - j)
@@ -76,17 +75,17 @@ pub difference_self : (xs : List ℕ) → first_difference xs xs ≡ None
 unfolding first_difference
 difference_self xs = same_self 0 xs
 
--- that two numbers, one from each list, are not the same
-abbrev pub differ : ℕ × ℕ → Bool
-differ p = not (p.0 == p.1)
+-- ---- one turn of the comparison, on what is left of two lists
 
-found_from : (k : ℕ) (xs ys : List ℕ) → position_from differ k (zip xs ys) ≡ differ_from k xs ys
+module _ (xs ys : List ℕ) (i : ℕ) (hx : i < length xs) (hy : i < length ys) where
+  pub same_turn : get_or xs i 0 ≡ get_or ys i 0 → differ_from i (drop i xs) (drop i ys) ≡ differ_from (i + 1) (drop (i + 1) xs) (drop (i + 1) ys)
+  unfolding differ_from
+  same_turn e = rw (drop-cons xs i 0 hx, drop-cons ys i 0 hy, eq-eqb (get_or xs i 0) (get_or ys i 0) e, add-one i)
+
+  pub differ_turn : (get_or xs i 0 ≡ get_or ys i 0 → ⊥) → differ_from i (drop i xs) (drop i ys) ≡ Some i
+  unfolding differ_from
+  differ_turn e = rw (drop-cons xs i 0 hx, drop-cons ys i 0 hy, ne_eqb (get_or xs i 0) (get_or ys i 0) e)
+
+pub same_end : (xs ys : List ℕ) (i : ℕ) → length xs ≤ i → differ_from i (drop i xs) (drop i ys) ≡ None
 unfolding differ_from
-found_from k [] ys = refl
-found_from k (x ∷ xs) [] = refl
-found_from k (x ∷ xs) (y ∷ ys) = rw (add-one k, found_from (suc k) xs ys) (grind (arith, nat_tests))
-
--- the first pair of different numbers stands where the lists first differ
-pub difference_found : (xs ys : List ℕ) {r : Option ℕ} → r ≡ position differ (zip xs ys) → r ≡ first_difference xs ys
-unfolding first_difference
-difference_found xs ys e = e ∙ position_from-zero differ (zip xs ys) ∙ found_from 0 xs ys
+same_end xs ys i h = rw (drop_of_length-le xs h)

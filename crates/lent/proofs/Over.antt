@@ -1,13 +1,13 @@
 -- Laws of what is written over a list: what stands before it, from it on and behind it, a second part right behind the first, what stood there
 -- already, the part read again, single bytes; nothing written, and two bytes.
 use Prim.Native.Nat.{ℕ, ◌+◌, ◌<◌, ◌≤◌}
-use mathlib.Core.Path.{◌≡◌, sym, ◌∙◌, ap, ap₂}
+use mathlib.Core.Path.{◌≡◌, sym, ◌∙◌, ap}
 use mathlib.Core.List.{List, [], ◌∷◌, ◌++◌, append_assoc}
 use native.Mathlib.Nat.{add_assoc}
 use native.Mathlib.Omega.{arith}
 use native.Mathlib.Numerals.{add-one}
 use lib.ListN.{length, take, drop, set, get_or, get_or-append, length-append, length-drop, take-append-drop}
-use lib.Seq.{sets-eq, paste, paste-zero, paste-suc, get_or-take, get_or-append-add, length-take-le, take_at, drop_at, drop-drop, take-take, take-add, take-append_seam, drop-append-add}
+use lib.Seq.{sets-eq, paste, paste-zero, paste-suc, take-length, get_or-take, get_or-append-add, length-take-le, take_at, drop_at, drop-drop, take-take, take-add, take-append_seam, drop-append-add}
 use Rattle.lent.specs.Lent.{over}
 
 module _ {A : Type 0} (d : List A) (at : ℕ) (x : List A) (room : at ≤ length d) where
@@ -80,6 +80,15 @@ pub part_front : (x : List ℕ) (a m n : ℕ) → a + m ≤ n → n ≤ length x
 part_front x a m n l h =
     take_drop a m (take n x) (simp (length-take-le n x h) (omega arith)) ∙ ap (drop a) (take-take (a + m) n x l) ∙ sym (take_drop a m x (omega arith))
 
+-- the first j items of s pasted over d, and one item more; all of s pasted is `over`
+pub put_turn :
+    {A : Type 0} (d₀ d s : List A) (at j : ℕ) (x none : A) → at + length s ≤ length d₀ → j < length s → d ≡ paste d₀ at s j → x ≡ get_or s j none →
+    set d (at + j) x ≡ paste d₀ at s (j + 1)
+put_turn d₀ d s at j x none room more e there = rw (e, there, add-one j) (paste-suc d₀ at s j none (omega arith) more)
+
+pub put_end : {A : Type 0} (d s : List A) (at : ℕ) → paste d at s (length s) ≡ over d at s
+put_end d s at = rw (take-length s)
+
 -- the first items of a part written there, and one item more
 over_first : {A : Type 0} (d s : List A) (at j : ℕ) → j ≤ length s → over d at (take j s) ≡ paste d at s j
 over_first d s at j h = ap (λ (n : ℕ). take at d ++ take j s ++ drop (at + n) d) (length-take-le j s h)
@@ -88,5 +97,4 @@ pub over_more :
     {A : Type 0} (d s : List A) (at j : ℕ) (x : A) → at + length s ≤ length d → j < length s → x ≡ get_or s j x →
     set (over d at (take j s)) (at + j) x ≡ over d at (take (j + 1) s)
 over_more d s at j x room more there =
-    ap₂ (λ t y. set t (at + j) y) (over_first d s at j (omega arith)) there ∙ paste-suc d at s j x (omega arith) more ∙ ap (paste d at s) (sym (add-one j))
-    ∙ sym (over_first d s at (j + 1) (omega arith))
+    put_turn d (over d at (take j s)) s at j x x room more (over_first d s at j (omega arith)) there ∙ sym (over_first d s at (j + 1) (omega arith))

@@ -16,11 +16,17 @@ pub fn put<T: Copy>(dst: &mut [T], at: usize, src: &[T])
     }
 }
 
-// The first place at which two slices of one length differ.
+// The first place at which two slices of one length differ. By index, and not by `position`: so a comparison that begins at the second byte
+// is refused for what it leaves out (must-fail/first_byte_unread.edit).
 pub fn first_difference(a: &[u8], b: &[u8]) -> Option<usize>
     requires { length a.now ≡ length b.now }
     ensures first { result ≡ first_difference a.now b.now }
     ensures inside { IfSome result (λ k. k < length a.now) }
 {
-    a.iter().zip(b).position(|(x, y)| x != y)
+    for i in 0..a.len() {
+        if a[i] != b[i] {
+            return Some(i);
+        }
+    }
+    None
 }
