@@ -1,13 +1,10 @@
 -- What is compared in one phase, from the current of each end: equal currents give the same, and how large the sums get.
 use mathlib.Core.Path.{◌≡◌, refl, ap, ◌∙◌}
-use mathlib.Core.List.{List}
 use Prim.Native.Nat.{ℕ, zero, suc, ◌+◌, ◌*◌, ◌^◌, ◌<◌, ◌≤◌}
 use native.Mathlib.Omega.{arith}
 use lib.Dec.{le→leb}
-use lib.ListN.{get_or}
 use Rattle.whole.specs.Sum.{sum_of}
 use Rattle.plane.specs.declared.Phasor.{Phasor}
-use Rattle.plane.specs.Plane as plane
 use Rattle.plane.specs.Plane.{plus, squared_magnitude}
 use Rattle.plane.specs.Sizes.{Inside, phasor_size}
 use Rattle.plane.proofs.Bounds.{inside_wider, inside_along}

@@ -4,8 +4,7 @@
 
 pub mod change; // the slope at which a phase changes
 
-ghost use Rattle.std.specs.Prelude.{◌≡◌, ℕ, ◌<◌, ◌≤◌, get_or};
-ghost use Rattle.plane.specs.Plane.{zero};
+ghost use Rattle.std.specs.Prelude.{◌≡◌, ◌<◌, ◌≤◌};
 ghost use Rattle.plane.specs.Sizes.{Inside, phasor_size};
 ghost use Rattle.phasors.specs.Grid.{cell};
 ghost use Rattle.phasors.specs.Sizes.{GridInside};

@@ -7,7 +7,7 @@ use Rattle.plane.proofs.Bounds.{inside_wider}
 use Rattle.phasors.specs.Grid.{cell, total}
 use Rattle.phasors.specs.Sizes.{GridInside}
 use Rattle.differential.specs.Differential.{restraint}
-use Rattle.differential.proofs.Phase.{one_more, restrained_more, sum_inside, compared}
+use Rattle.differential.proofs.Phase.{one_more, restrained_more, no_larger, sum_inside, compared}
 use Rattle.differential.proofs.of_phase.Goals as goal
 
 -- the currents of one phase
@@ -22,7 +22,7 @@ pub add-sum-requires : goal.add-sum-requires
 add-sum-requires c =
     let h = row c.args.grid.now c.args.p c.args.ends c.requires in
     let sum = sum_inside (cell c.args.grid.now c.args.p) c.args.ends h c.loop-e.invariant.sum_is (omega arith) in
-    (inside_wider sum tt, inside_wider (h.1 c.loop-e.e c.loop-e-test.true) tt)
+    (inside_wider sum tt, no_larger (cell c.args.grid.now c.args.p) c.loop-e.e refl (h.1 c.loop-e.e c.loop-e-test.true))
 
 pub loop-e-preserved : goal.loop-e-preserved
 loop-e-preserved c =
